@@ -1,0 +1,5 @@
+pub mod Bools
+pub mod Listed
+pub mod Sublist
+pub mod Order
+pub mod Refusals

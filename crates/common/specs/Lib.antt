@@ -1,0 +1,4 @@
+pub mod Tests
+pub mod Refusals
+pub mod Ranges
+pub mod Counters

@@ -1,0 +1,11 @@
+pub mod Numbering
+pub mod Widening
+pub mod Turn
+pub mod Walk
+pub mod Changes
+pub mod Served
+pub mod Events
+pub mod Revoked
+pub mod Waits
+pub mod Greatest
+pub mod Sessions

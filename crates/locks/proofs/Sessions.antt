@@ -1,0 +1,138 @@
+-- Over any session the table stays sound, and the write grants of a stripe are numbered 1, 2, 3, ..: each takes the stripe's last number plus one.
+use Prim.Native.Nat.{ℕ, zero, suc, _+_, _<_}
+use native.Mathlib.Omega.{arith}
+use native.Mathlib.Nat.{add-zero, add-assoc}
+use mathlib.Core.Bool.{Bool, true, false, _&&_, cond}
+use mathlib.Core.List.{List, [], _∷_, _++_, map, map-append, append-nil}
+use mathlib.Core.Path.{_≡_, refl, sym, ap, ap₂, subst, _∙_}
+use lib.Dec.{T, eqb, eqb→eq}
+use lib.ListN.{length, getD, replicate}
+use Rattle.common.specs.Ranges.{eof}
+use Rattle.common.specs.Tests.{any, keep, upFrom}
+use Rattle.common.proofs.Bools.{and-l, and-r, by-cond}
+use Rattle.common.proofs.Listed.{keep-append, upFrom-add}
+use Rattle.modes.specs.Codes.{granted, asked, canceling}
+use Rattle.table.specs.declared.Lock.{Lock}
+use Rattle.table.specs.Table.{Table, empty, stripeCount, numberOf, writes, lastOf}
+use Rattle.table.specs.Sound.{sound, room}
+use Rattle.table.proofs.Facts.{Sound, sound→}
+use Rattle.locks.specs.declared.Message.{Message}
+use Rattle.locks.specs.declared.Message.the-variants.{Request, Acknowledge, Downgrade, Release}
+use Rattle.locks.specs.Conflicts.{hurries}
+use Rattle.locks.specs.Settle.{Event, grantEvent, revocation, given, inState, nextNumber, lastsAfter, widest, grant, free, turns, wanted, revocations, settle}
+use Rattle.locks.specs.Refusals.{refusal}
+use Rattle.locks.specs.Serve.{Outcome, change, answered, accepted, refused, serve}
+use Rattle.locks.specs.Session.{after, events, writeGrant, numbers}
+use Rattle.locks.proofs.Numbering.{next-is, lasts-at}
+use Rattle.locks.proofs.Turn.{w-valid-here}
+use Rattle.locks.proofs.Walk.{OnGrant, OnWait, walk}
+use Rattle.locks.proofs.Served.{change-sound, serve-sound}
+
+pub session-sound : (t : Table) (ms : List Message) → T (sound t) → T (sound (after t ms))
+session-sound t [] s = s
+session-sound t (m ∷ ms) s = session-sound (serve t m .table) ms (serve-sound t m s)
+
+-- k numbers were taken after `base`, in a row
+pub record Counted (s base : ℕ) (lasts : List ℕ) (es : List Event) : Type 0 where
+  pub k : ℕ
+  pub are : numbers s es ≡ upFrom (base + 1) k
+  pub last : getD lasts s 0 ≡ base + k
+
+numbers-append : (s : ℕ) (es fs : List Event) → numbers s (es ++ fs) ≡ numbers s es ++ numbers s fs
+numbers-append s es fs = ap (map (λ e. numberOf (e .lock))) (keep-append (writeGrant s) es fs) ∙ map-append (λ e. numberOf (e .lock)) (keep (writeGrant s) es) (keep (writeGrant s) fs)
+
+-- one row after the other
+joined : (s base : ℕ) (lasts lasts′ : List ℕ) (es fs : List Event) → (c : Counted s base lasts es) → Counted s (getD lasts s 0) lasts′ fs → Counted s base lasts′ (es ++ fs)
+joined s base lasts lasts′ es fs c d =
+    record {
+        k = c .k + d .k;
+        are = numbers-append s es fs ∙ ap₂ (λ (x y : List ℕ). x ++ y) (c .are) (d .are ∙ ap (λ (a : ℕ). upFrom a (d .k)) (ap (λ (a : ℕ). a + 1) (c .last) ∙ (omega arith))) ∙ sym (upFrom-add (base + 1) (c .k) (d .k));
+        last = let p = c .last in let q = d .last in omega arith;
+    }
+
+nothing : (s : ℕ) (lasts : List ℕ) → Counted s (getD lasts s 0) lasts []
+nothing s lasts = record { k = 0; are = refl; last = sym (add-zero (getD lasts s 0)) }
+
+-- the grant of w, in either state
+one : (s : ℕ) (lasts : List ℕ) (w : Lock) (state l : ℕ) → w .stripe < length lasts
+    → Counted s (getD lasts s 0) (lastsAfter lasts w) (grantEvent (given w state (nextNumber lasts w) l) ∷ [])
+one s lasts w state l h = record { k = cond own 1 0; are = row own number; last = lasts-at lasts w h s }
+  where
+    own : Bool
+    own = writes w && eqb (w .stripe) s
+    e : Event
+    e = grantEvent (given w state (nextNumber lasts w) l)
+    number : T own → nextNumber lasts w ≡ getD lasts s 0 + 1
+    number t = next-is lasts w (and-l (writes w) (eqb (w .stripe) s) t) ∙ ap (λ (i : ℕ). getD lasts i 0 + 1) (eqb→eq (w .stripe) s (and-r (writes w) (eqb (w .stripe) s) t))
+    row : (b : Bool) → (T b → nextNumber lasts w ≡ getD lasts s 0 + 1) → map (λ e. numberOf (e .lock)) (cond b (e ∷ []) []) ≡ upFrom (getD lasts s 0 + 1) (cond b 1 0)
+    row true f = ap (λ (n : ℕ). n ∷ []) (f tt)
+    row false f = refl
+
+granted-one : (s : ℕ) (lasts : List ℕ) (rs : List Lock) (w : Lock) → w .stripe < length lasts → Counted s (getD lasts s 0) (lastsAfter lasts w) (grantEvent (grant lasts rs w) ∷ [])
+unfolding grant
+granted-one s lasts rs w h =
+    by-cond (λ (g : Lock). Counted s (getD lasts s 0) (lastsAfter lasts w) (grantEvent g ∷ [])) (any (hurries w) rs)
+    (given w canceling (nextNumber lasts w) (w .last)) (given w granted (nextNumber lasts w) (widest w eof rs))
+    (λ t. one s lasts w canceling (w .last) h) (λ t. one s lasts w granted (widest w eof rs) h)
+
+no-number : (s : ℕ) (rs : List Lock) → numbers s (map (λ r. revocation (inState asked r)) rs) ≡ []
+no-number s [] = refl
+no-number s (r ∷ rs) = no-number s rs
+
+settle-counted : (t : Table) (s : ℕ) → Sound (t .issued) (t .lasts) (t .locks) → Counted s (lastOf t s) (settle t .table .lasts) (settle t .events)
+unfolding settle
+settle-counted t s S =
+    let c = walk (λ lasts before rest es. Counted s (lastOf t s) lasts es) t on by S (nothing s (t .lasts)) .law in
+    let rs : List Lock = turns (length (t .locks)) t .table .locks in
+    record {
+        k = c .k;
+        are = numbers-append s (turns (length (t .locks)) t .events) (revocations rs) ∙ ap₂ (λ (x y : List ℕ). x ++ y) (c .are) (no-number s (keep (wanted rs) rs)) ∙ append-nil (upFrom (lastOf t s + 1) (c .k));
+        last = c .last;
+    }
+  where
+    on : OnGrant (t .issued) (λ lasts before rest es. Counted s (lastOf t s) lasts es)
+    on lasts before w rest es S f c =
+        joined s (lastOf t s) lasts (lastsAfter lasts w) es (grantEvent (grant lasts (before ++ (w ∷ rest)) w) ∷ []) c
+        (granted-one s lasts (before ++ (w ∷ rest)) w (let h = w-valid-here (t .issued) lasts before w rest S f .stripe-hi in let n = S .sixteen in omega arith))
+    by : OnWait (t .issued) (λ lasts before rest es. Counted s (lastOf t s) lasts es)
+    by lasts before w rest es S f c = c
+
+same-lasts : (t : Table) (m : Message) → change t m .lasts ≡ t .lasts
+unfolding change
+same-lasts t (Request c s m f l) = refl
+same-lasts t (Acknowledge c h) = refl
+same-lasts t (Downgrade c h) = refl
+same-lasts t (Release c h) = refl
+
+pub serve-counted : (t : Table) (m : Message) (s : ℕ) → T (sound t) → Counted s (lastOf t s) (serve t m .table .lasts) (serve t m .events)
+unfolding serve
+serve-counted t m s q =
+    by-cond (λ (o : Outcome). Counted s (lastOf t s) (o .table .lasts) (o .events)) (eqb (refusal t m) 0) (accepted (answered t m) (settle (change t m))) (refused t (refusal t m))
+    (λ e.
+        let u : Table = change t m in
+        subst (λ (l : List ℕ). Counted s (getD l s 0) (settle u .table .lasts) (settle u .events)) (same-lasts t m) (settle-counted u s (change-sound t m e (sound→ t q))))
+    (λ e. nothing s (t .lasts))
+
+pub session-counted : (t : Table) (ms : List Message) (s : ℕ) → T (sound t) → Counted s (lastOf t s) (after t ms .lasts) (events t ms)
+session-counted t [] s q = nothing s (t .lasts)
+session-counted t (m ∷ ms) s q =
+    joined s (lastOf t s) (serve t m .table .lasts) (after (serve t m .table) ms .lasts) (serve t m .events) (events (serve t m .table) ms)
+    (serve-counted t m s q) (session-counted (serve t m .table) ms s (serve-sound t m q))
+
+-- From the empty table: 1, 2, 3, .. up to the stripe's last number
+none-yet : (n s : ℕ) → getD {A = ℕ} (replicate n 0) s 0 ≡ 0
+none-yet zero s = refl
+none-yet (suc n) zero = refl
+none-yet (suc n) (suc s) = none-yet n s
+
+pub empty-sound : T (sound empty)
+unfolding sound room
+empty-sound = tt
+
+pub session-numbers : (ms : List Message) (s : ℕ) → numbers s (events empty ms) ≡ upFrom 1 (lastOf (after empty ms) s)
+session-numbers ms s =
+    let c = session-counted empty ms s empty-sound in
+    let z = none-yet stripeCount s in
+    let from : lastOf empty s + 1 ≡ 1 = omega arith in
+    let many : c .k ≡ lastOf (after empty ms) s = let e = c .last in omega arith in
+    c .are ∙ ap₂ upFrom from many

@@ -1,0 +1,76 @@
+-- Serving one message of a sound table.
+use Prim.Native.Nat.{ℕ, _+_}
+use mathlib.Core.Bool.{not, cond}
+use mathlib.Core.List.{List, [], _∷_, _++_, map}
+use lib.Dec.{eqb}
+use Rattle.common.specs.Counters.{handle, number}
+use Rattle.common.specs.Tests.{keep}
+use Rattle.modes.specs.Codes.{waiting, canceling, nbw}
+use Rattle.table.specs.declared.Lock.{Lock}
+use Rattle.table.specs.Table.{Table}
+use Rattle.locks.specs.declared.Message.{Message}
+use Rattle.locks.specs.declared.Message.the-variants.{Request, Acknowledge, Downgrade, Release}
+use Rattle.locks.specs.Settle.{Event, Settled, settle, inState}
+use Rattle.locks.specs.Refusals.{refusal, named, mayAcknowledge, mayDowngrade}
+
+-- A new record, which waits
+abbrev pub asking : ℕ → ℕ → ℕ → ℕ → ℕ → ℕ → Lock
+asking h c s m f l =
+    record {
+      handle = handle h;
+      client = c;
+      stripe = s;
+      mode = m;
+      state = waiting;
+      number = number 0;
+      first = f;
+      last = l;
+    }
+
+abbrev pub downgraded : Lock → Lock
+downgraded r =
+    record {
+      handle = r .handle;
+      client = r .client;
+      stripe = r .stripe;
+      mode = nbw;
+      state = r .state;
+      number = r .number;
+      first = r .first;
+      last = r .last;
+    }
+
+abbrev pub withLocks : Table → List Lock → Table
+withLocks t rs = record { issued = t .issued; lasts = t .lasts; locks = rs }
+
+-- "An accepted message does its own change (add a waiting record; state 2 to 3; mode to NBW; remove the record)."
+unfoldable pub change : Table → Message → Table
+change t (Request c s m f l) =
+    record { issued = t .issued + 1; lasts = t .lasts; locks = t .locks ++ asking (t .issued + 1) c s m f l ∷ [] }
+change t (Acknowledge c h) = withLocks t (map (λ r. cond (mayAcknowledge c h r) (inState canceling r) r) (t .locks))
+change t (Downgrade c h) = withLocks t (map (λ r. cond (mayDowngrade c h r) (downgraded r) r) (t .locks))
+change t (Release c h) = withLocks t (keep (λ r. not (named c h r)) (t .locks))
+
+-- "all four messages answer the handle they made or named"
+unfoldable pub answered : Table → Message → ℕ
+answered t (Request c s m f l) = t .issued + 1
+answered t (Acknowledge c h) = h
+answered t (Downgrade c h) = h
+answered t (Release c h) = h
+
+-- What a call answers, and the table after it
+pub record Outcome : Type 0 where
+  pub refusal : ℕ
+  pub handle : ℕ
+  pub table : Table
+  pub events : List Event
+
+abbrev pub accepted : ℕ → Settled → Outcome
+accepted h s = record { refusal = 0; handle = h; table = s .table; events = s .events }
+
+-- "A refused call returns its number with handle 0 and event count 0, and changes nothing in any buffer."
+abbrev pub refused : Table → ℕ → Outcome
+refused t n = record { refusal = n; handle = 0; table = t; events = [] }
+
+unfoldable pub serve : Table → Message → Outcome
+serve t m = cond (eqb (refusal t m) 0) (accepted (answered t m) (settle (change t m))) (refused t (refusal t m))

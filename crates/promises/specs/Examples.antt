@@ -1,0 +1,171 @@
+-- The settled examples P1 to P11 of document 01, as one table. Each row is computed from the rules and compared with what the document prints.
+use Prim.Native.Nat.{ℕ, suc}
+use mathlib.Core.Path.{_≡_, refl}
+use mathlib.Core.List.{List, [], _∷_, _++_, map}
+use lib.ListN.{replicate}
+use Rattle.common.specs.Ranges.{eof}
+use Rattle.modes.specs.Conflict.{conflict}
+use Rattle.table.specs.Table.{Table, empty}
+use Rattle.locks.specs.declared.Message.{Message}
+use Rattle.locks.specs.declared.Message.the-variants.{Request, Acknowledge, Downgrade, Release}
+use Rattle.locks.specs.Settle.{settle, turns, turn, grant, widest}
+use Rattle.locks.specs.Refusals.{rules}
+use Rattle.locks.specs.Serve.{Outcome, serve, change, answered}
+use Rattle.locks.specs.Events.{eventFields}
+use Rattle.runs.specs.declared.Run.{Run}
+use Rattle.runs.specs.Owner.{run, over, owner}
+use Rattle.runs.specs.Map.{raise, mapOf, put, paint}
+use Rattle.runs.specs.Sound.{soundMap, soundLog, sane, apart}
+use Rattle.stripe.specs.Refusals.{behind}
+use Rattle.stripe.specs.Stripe as s
+use Rattle.stripe.specs.Stripe.{Stripe, note, write, restart, stored}
+
+-- The lock table: messages sent to the empty table, and the lines that answer them, as numbers. Of each message refusal and handle; of each
+-- event kind, handle, client, stripe, mode, state, number, first, last
+abbrev pub lines : Outcome → List (List ℕ)
+lines o = (o .refusal ∷ o .handle ∷ []) ∷ map eventFields (o .events)
+
+abbrev pub session : Table → List Message → List (List ℕ)
+session t [] = []
+session t (m ∷ ms) = let o = serve t m in lines o ++ session (o .table) ms
+
+-- The stripe: calls from an empty map and log and an image of ten dots, what they answer, and the map and image that they leave
+pub data Call : Type 0 where
+  noting : (first len number : ℕ) → Call
+  writing : (first : ℕ) (piece : List ℕ) (number : ℕ) → Call
+
+abbrev pub call : Stripe → Call → s.Outcome
+call x (noting first len number) = note x first len number
+call x (writing first piece number) = write x first piece number
+
+abbrev pub answers : Stripe → List Call → List ℕ
+answers x [] = []
+answers x (c ∷ cs) = let o = call x c in o .refusal ∷ answers (o .stripe) cs
+
+abbrev pub after : Stripe → List Call → Stripe
+after x [] = x
+after x (c ∷ cs) = after (call x c .stripe) cs
+
+abbrev dots : List ℕ
+dots = replicate 10 46
+
+abbrev pub begin : Stripe
+begin = record { map = []; log = []; image = dots }
+
+-- A row of the table: what is done, and what comes of it
+pub data Row : Type 0 where
+  sending : (sent : List Message) (printed : List (List ℕ)) → Row
+  calling : (made : List Call) (answered : List ℕ) (map : List Run) (image : List ℕ) → Row
+
+-- The row with what the rules say comes of it
+abbrev pub computed : Row → Row
+computed (sending sent printed) = sending sent (session empty sent)
+computed (calling made answered map image) = calling made (answers begin made) (after begin made .map) (after begin made .image)
+
+-- The pieces of P8 to P11: where, the letter, and the number
+abbrev noteA : Call
+noteA = noting 0 6 2
+
+abbrev noteB : Call
+noteB = noting 4 4 1
+
+abbrev noteC : Call
+noteC = noting 5 3 3
+
+abbrev A : Call
+A = writing 0 (replicate 6 65) 2
+
+abbrev B : Call
+B = writing 4 (replicate 4 66) 1
+
+abbrev C : Call
+C = writing 5 (replicate 3 67) 3
+
+-- `AAAAACCC..`, map [0,4] 2, [5,7] 3
+abbrev inOrder : Call → Call → Call → Row
+inOrder x y z =
+    calling (noteA ∷ noteB ∷ noteC ∷ x ∷ y ∷ z ∷ []) (replicate 6 0) (run 0 4 2 ∷ run 5 7 3 ∷ [])
+    (replicate 5 65 ++ replicate 3 67 ++ replicate 2 46)
+
+-- P8's notes and [8,9] number 3: second run [5,9]
+abbrev joined : List Call → List ℕ → Row
+joined more says =
+    calling (noteA ∷ noteB ∷ noteC ∷ noting 8 2 3 ∷ more) (0 ∷ 0 ∷ 0 ∷ 0 ∷ says) (run 0 4 2 ∷ run 5 9 3 ∷ []) dots
+
+unfoldable pub examples : List Row
+examples =
+    -- P1
+    sending
+    (Request 0 0 2 0 20 ∷ Request 1 0 2 10 30 ∷ Acknowledge 0 1 ∷ Request 2 0 1 0 5 ∷ Release 0 1 ∷ Release 1 2 ∷ [])
+    ((0 ∷ 1 ∷ [])
+    ∷ (1 ∷ 1 ∷ 0 ∷ 0 ∷ 2 ∷ 1 ∷ 1 ∷ 0 ∷ eof ∷ [])
+    ∷ (0 ∷ 2 ∷ [])
+    ∷ (2 ∷ 1 ∷ 0 ∷ 0 ∷ 2 ∷ 2 ∷ 1 ∷ 0 ∷ eof ∷ [])
+    ∷ (0 ∷ 1 ∷ [])
+    ∷ (1 ∷ 2 ∷ 1 ∷ 0 ∷ 2 ∷ 1 ∷ 2 ∷ 10 ∷ eof ∷ [])
+    ∷ (0 ∷ 3 ∷ [])
+    ∷ (0 ∷ 1 ∷ [])
+    ∷ (1 ∷ 3 ∷ 2 ∷ 0 ∷ 1 ∷ 1 ∷ 0 ∷ 0 ∷ 9 ∷ [])
+    ∷ (0 ∷ 2 ∷ [])
+    ∷ [])
+    -- P2
+    ∷ sending
+    (Request 0 0 2 0 eof ∷ Request 1 0 2 0 9 ∷ Request 2 0 2 0 9 ∷ Request 3 0 2 0 9 ∷ Acknowledge 0 1 ∷ [])
+    ((0 ∷ 1 ∷ [])
+    ∷ (1 ∷ 1 ∷ 0 ∷ 0 ∷ 2 ∷ 1 ∷ 1 ∷ 0 ∷ eof ∷ [])
+    ∷ (0 ∷ 2 ∷ [])
+    ∷ (2 ∷ 1 ∷ 0 ∷ 0 ∷ 2 ∷ 2 ∷ 1 ∷ 0 ∷ eof ∷ [])
+    ∷ (0 ∷ 3 ∷ [])
+    ∷ (0 ∷ 4 ∷ [])
+    ∷ (0 ∷ 1 ∷ [])
+    ∷ (1 ∷ 2 ∷ 1 ∷ 0 ∷ 2 ∷ 3 ∷ 2 ∷ 0 ∷ 9 ∷ [])
+    ∷ (1 ∷ 3 ∷ 2 ∷ 0 ∷ 2 ∷ 3 ∷ 3 ∷ 0 ∷ 9 ∷ [])
+    ∷ (1 ∷ 4 ∷ 3 ∷ 0 ∷ 2 ∷ 1 ∷ 4 ∷ 0 ∷ eof ∷ [])
+    ∷ [])
+    -- P3
+    ∷ sending
+    (Request 0 0 2 0 eof ∷ Request 1 0 1 0 9 ∷ Acknowledge 0 1 ∷ [])
+    ((0 ∷ 1 ∷ [])
+    ∷ (1 ∷ 1 ∷ 0 ∷ 0 ∷ 2 ∷ 1 ∷ 1 ∷ 0 ∷ eof ∷ [])
+    ∷ (0 ∷ 2 ∷ [])
+    ∷ (2 ∷ 1 ∷ 0 ∷ 0 ∷ 2 ∷ 2 ∷ 1 ∷ 0 ∷ eof ∷ [])
+    ∷ (0 ∷ 1 ∷ [])
+    ∷ [])
+    -- P4: a BW that is granted while an NBW waits behind it comes canceling over [0,9]
+    ∷ sending
+    (Request 0 0 4 0 9 ∷ Request 1 0 3 0 9 ∷ Request 2 0 2 0 9 ∷ Release 0 1 ∷ Downgrade 1 2 ∷ Downgrade 1 2 ∷ [])
+    ((0 ∷ 1 ∷ [])
+    ∷ (1 ∷ 1 ∷ 0 ∷ 0 ∷ 4 ∷ 1 ∷ 1 ∷ 0 ∷ eof ∷ [])
+    ∷ (0 ∷ 2 ∷ [])
+    ∷ (2 ∷ 1 ∷ 0 ∷ 0 ∷ 4 ∷ 2 ∷ 1 ∷ 0 ∷ eof ∷ [])
+    ∷ (0 ∷ 3 ∷ [])
+    ∷ (0 ∷ 1 ∷ [])
+    ∷ (1 ∷ 2 ∷ 1 ∷ 0 ∷ 3 ∷ 3 ∷ 2 ∷ 0 ∷ 9 ∷ [])
+    ∷ (0 ∷ 2 ∷ [])
+    ∷ (1 ∷ 3 ∷ 2 ∷ 0 ∷ 2 ∷ 1 ∷ 3 ∷ 0 ∷ eof ∷ [])
+    ∷ (11 ∷ 0 ∷ [])
+    ∷ [])
+    -- P5
+    ∷ sending
+    (Request 0 0 1 eof eof ∷ Request 0 0 1 0 (suc eof) ∷ Request 0 0 1 5 4 ∷ [])
+    ((0 ∷ 1 ∷ []) ∷ (1 ∷ 1 ∷ 0 ∷ 0 ∷ 1 ∷ 1 ∷ 0 ∷ eof ∷ eof ∷ []) ∷ (6 ∷ 0 ∷ []) ∷ (6 ∷ 0 ∷ []) ∷ [])
+    -- P6, P7
+    ∷ sending
+    (Request 63 0 1 0 0 ∷ Request 64 0 1 0 0 ∷ Request 0 16 0 0 0 ∷ [])
+    ((0 ∷ 1 ∷ []) ∷ (1 ∷ 1 ∷ 63 ∷ 0 ∷ 1 ∷ 1 ∷ 0 ∷ 0 ∷ eof ∷ []) ∷ (3 ∷ 0 ∷ []) ∷ (4 ∷ 0 ∷ []) ∷ [])
+    -- P8
+    ∷ inOrder A B C
+    ∷ inOrder A C B
+    ∷ inOrder B A C
+    ∷ inOrder B C A
+    ∷ inOrder C A B
+    ∷ inOrder C B A
+    -- P9, P10, P11
+    ∷ joined [] []
+    ∷ joined (writing 8 (replicate 2 69) 4 ∷ []) (18 ∷ [])
+    ∷ joined (noting 8 0 3 ∷ writing 8 [] 3 ∷ []) (14 ∷ 14 ∷ [])
+    ∷ []
+
+pub examples-hold : map computed examples ≡ examples
+unfolding examples serve rules change answered settle turns turn grant widest conflict note write stored behind soundMap soundLog sane apart mapOf raise paint put owner over
+examples-hold = refl

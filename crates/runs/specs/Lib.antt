@@ -1,0 +1,3 @@
+pub mod Owner
+pub mod Map
+pub mod Sound

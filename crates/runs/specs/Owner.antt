@@ -1,0 +1,24 @@
+-- What a list of runs says of each byte.
+use Prim.Native.Nat.{ℕ, max}
+use mathlib.Core.Bool.{Bool, cond}
+use mathlib.Core.List.{List, [], _∷_}
+use Rattle.common.specs.Ranges.{within}
+use Rattle.common.specs.Counters.{number}
+use Rattle.runs.specs.declared.Run.{Run}
+
+-- By what runs and pieces are judged
+abbrev pub ageOf : Run → ℕ
+ageOf r = r .number .0
+
+-- The bytes first to last at an age
+abbrev pub run : ℕ → ℕ → ℕ → Run
+run first last age = record { first = first; last = last; number = number age }
+
+-- The age that a run gives a byte: 0 outside
+unfoldable pub over : Run → ℕ → ℕ
+over r b = cond (within (r .first) b (r .last)) (ageOf r) 0
+
+-- The greatest number of an entry over the byte. A byte in no run has number 0
+unfoldable pub owner : List Run → ℕ → ℕ
+owner [] b = 0
+owner (r ∷ rs) b = max (over r b) (owner rs b)

@@ -1,0 +1,58 @@
+-- Note, write and restart: document 01, "Note, write, restart".
+use Prim.Native.Nat.{ℕ, suc}
+use mathlib.Core.Bool.{Bool, true, cond}
+use mathlib.Core.List.{List, [], _∷_, _++_}
+use lib.Dec.{eqb}
+use lib.ListN.{length, take, drop}
+use Rattle.common.specs.Refusals.{firstHit}
+use Rattle.runs.specs.declared.Run.{Run}
+use Rattle.runs.specs.Owner.{owner}
+use Rattle.runs.specs.Map.{raise, mapOf}
+use Rattle.runs.specs.Sound.{soundMap, soundLog}
+use Rattle.stripe.specs.Refusals.{place, noteRules, writeRules, restartRules}
+
+-- A stripe: its map, its log and its image
+pub record Stripe : Type 0 where
+  pub map : List Run
+  pub log : List Run
+  pub image : List ℕ
+
+-- What a call answers, and the stripe after it
+pub record Outcome : Type 0 where
+  pub refusal : ℕ
+  pub stripe : Stripe
+
+-- "A refused call changes nothing"
+abbrev pub answer : ℕ → Stripe → Stripe → Outcome
+answer refusal old new = record { refusal = refusal; stripe = cond (eqb refusal 0) new old }
+
+-- Note "appends the entry and raises each byte's number in the map to the piece's where that is greater"
+abbrev pub noted : Stripe → Run → Stripe
+noted s r = record { map = raise r (s .map); log = s .log ++ r ∷ []; image = s .image }
+
+unfoldable pub note : Stripe → ℕ → ℕ → ℕ → Outcome
+note s first len number =
+    answer (firstHit (noteRules (soundMap (s .map)) (soundLog (s .log)) (s .map) (s .log) first len number (length (s .image)))) s
+    (noted s (place first len number))
+
+-- Write "stores the piece's byte exactly where the map's number equals the piece's". The image from the byte b on, with the piece's bytes so stored
+unfoldable pub stored : List Run → ℕ → ℕ → List ℕ → List ℕ → List ℕ
+stored map number b piece [] = []
+stored map number b [] (x ∷ xs) = x ∷ xs
+stored map number b (p ∷ ps) (x ∷ xs) = cond (eqb (owner map b) number) p x ∷ stored map number (suc b) ps xs
+
+-- "Write goes into the middle of the lent image"
+abbrev pub written : List Run → ℕ → List ℕ → ℕ → List ℕ → List ℕ
+written map first piece number image = take first image ++ stored map number first piece (drop first image)
+
+-- "It changes no map byte"
+unfoldable pub write : Stripe → ℕ → List ℕ → ℕ → Outcome
+write s first piece number =
+    answer (firstHit (writeRules (soundMap (s .map)) (s .map) first (length piece) number (length (s .image)))) s
+    (record { map = s .map; log = s .log; image = written (s .map) first piece number (s .image) })
+
+-- "Restart fills the map buffer with the log's map"
+unfoldable pub restart : Stripe → Outcome
+restart s =
+    answer (firstHit (restartRules true (soundLog (s .log)) (s .log))) s
+    (record { map = mapOf (s .log); log = s .log; image = s .image })

@@ -1,0 +1,1 @@
+// Note, write and restart over one stripe. The rules are in specs/.

@@ -1,0 +1,60 @@
+-- The table's bytes: the layouts, over the counter's width w, and the table that bytes say.
+use Prim.Native.Nat.{ℕ, _+_}
+use mathlib.Core.Bool.{Bool, _&&_}
+use mathlib.Core.List.{List, [], _∷_, map}
+use lib.Dec.{eqb}
+use lib.ListN.{length, getD, drop, replicate}
+use Rattle.common.specs.Counters.{handle, number, width}
+use Rattle.common.specs.Tests.{all}
+use Rattle.xdr.specs.Be.{be}
+use Rattle.xdr.specs.Layout.{fields, size}
+use Rattle.xdr.specs.Array.{array, arraySize, element}
+use Rattle.table.specs.declared.Lock.{Lock}
+use Rattle.table.specs.Table.{Table, stripeCount, maxRecords}
+use Rattle.table.specs.Sound.{sound}
+
+-- "A record is handle, client, stripe, mode, state, number, first, last: 40 bytes."
+abbrev pub lockLayout : ℕ → List ℕ
+lockLayout w = w ∷ 4 ∷ 4 ∷ 4 ∷ 4 ∷ w ∷ 8 ∷ 8 ∷ []
+
+abbrev pub lockOf : List ℕ → Lock
+lockOf fs =
+    record {
+      handle = handle (getD fs 0 0);
+      client = getD fs 1 0;
+      stripe = getD fs 2 0;
+      mode = getD fs 3 0;
+      state = getD fs 4 0;
+      number = number (getD fs 5 0);
+      first = getD fs 6 0;
+      last = getD fs 7 0;
+    }
+
+-- "Table, exactly 10,312 bytes: handles issued; 16 last sequence numbers; the array of at most 256 records .."
+abbrev pub lastsLayout : ℕ → List ℕ
+lastsLayout w = replicate stripeCount w
+
+abbrev pub arrayAt : ℕ → ℕ
+arrayAt w = w + size (lastsLayout w)
+
+abbrev pub tableSize : ℕ → ℕ
+tableSize w = arrayAt w + arraySize maxRecords (lockLayout w)
+
+unfoldable pub tableOf : ℕ → List ℕ → Table
+tableOf w t =
+    record {
+      issued = be w t 0;
+      lasts = fields (lastsLayout w) t w 0;
+      locks = map lockOf (array (lockLayout w) t (arrayAt w));
+    }
+
+-- ".. zero bytes after it"
+abbrev pub zeros : List ℕ → Bool
+zeros = all (λ b. eqb b 0)
+
+abbrev pub recordsEnd : ℕ → List ℕ → ℕ
+recordsEnd w t = element (lockLayout w) (arrayAt w) (be 4 t (arrayAt w))
+
+-- What refusal 2 asks: its length, and every rule
+unfoldable pub soundBytes : List ℕ → Bool
+soundBytes t = eqb (length t) (tableSize width) && (sound (tableOf width t) && zeros (drop (recordsEnd width t) t))

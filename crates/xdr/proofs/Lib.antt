@@ -1,0 +1,5 @@
+pub mod Numbers
+pub mod Fields
+pub mod Tabs
+pub mod Elements
+pub mod Arrays

@@ -1,0 +1,4 @@
+pub mod Be
+pub mod Layout
+pub mod Tab
+pub mod Array

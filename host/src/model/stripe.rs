@@ -1,0 +1,133 @@
+//! Note, write and restart of one stripe, on bytes as the C entries have them.
+
+use super::refusal::{self, refuse, Refusal};
+use super::runs::{map_of, numbers_over, sound_log, sound_map, Run, ENTRIES, RUNS};
+use super::xdr::{array, hyper, put_array, put_hyper, put_unsigned, unsigned, zero};
+use super::{EOF, HIGHEST};
+
+const RUN_BYTES: usize = 20;
+
+/// The exact length of a map.
+pub const MAP_BYTES: usize = 4 + RUN_BYTES * RUNS;
+/// The exact length of a log.
+pub const LOG_BYTES: usize = 4 + RUN_BYTES * ENTRIES;
+
+/// Appends the piece's entry to the log and raises the map's numbers to the piece's.
+pub fn note(
+    map: &mut [u8],
+    log: &mut [u8],
+    first: u64,
+    length: u64,
+    number: u64,
+    image_length: u64,
+) -> u64 {
+    answer(try_note(map, log, first, length, number, image_length))
+}
+
+/// Stores the piece's bytes in the image where the map's number equals the piece's.
+pub fn write(map: &[u8], image: &mut [u8], first: u64, piece: &[u8], number: u64) -> u64 {
+    answer(try_write(map, image, first, piece, number))
+}
+
+/// Fills the map buffer with the log's map.
+pub fn restart(map: &mut [u8], log: &[u8]) -> u64 {
+    answer(try_restart(map, log))
+}
+
+fn answer(outcome: Result<(), Refusal>) -> u64 {
+    outcome.err().unwrap_or(0)
+}
+
+fn try_note(
+    map: &mut [u8],
+    log: &mut [u8],
+    first: u64,
+    length: u64,
+    number: u64,
+    image_length: u64,
+) -> Result<(), Refusal> {
+    let mut runs = decode_map(map).ok_or(refusal::MAP)?;
+    let count = decode_log(log).ok_or(refusal::LOG)?.len();
+    let entry = piece_run(first, length, number, image_length)?;
+    runs.push(entry);
+    let raised = map_of(&runs);
+    refuse(refusal::RUNS, raised.len() > RUNS)?;
+    refuse(refusal::ENTRIES, count == ENTRIES)?;
+    map.copy_from_slice(&encode_map(&raised));
+    put_run(&mut log[4 + RUN_BYTES * count..], &entry);
+    put_unsigned(log, 0, count as u64 + 1);
+    Ok(())
+}
+
+fn try_write(
+    map: &[u8],
+    image: &mut [u8],
+    first: u64,
+    piece: &[u8],
+    number: u64,
+) -> Result<(), Refusal> {
+    let runs = decode_map(map).ok_or(refusal::MAP)?;
+    piece_run(first, piece.len() as u64, number, image.len() as u64)?;
+    let numbers = numbers_over(&runs, first, piece.len());
+    refuse(refusal::SMALLER, numbers.iter().any(|&under| under < number))?;
+    for (at, &byte) in piece.iter().enumerate() {
+        if numbers[at] == number {
+            image[first as usize + at] = byte;
+        }
+    }
+    Ok(())
+}
+
+fn try_restart(map: &mut [u8], log: &[u8]) -> Result<(), Refusal> {
+    refuse(refusal::MAP, map.len() != MAP_BYTES)?;
+    let entries = decode_log(log).ok_or(refusal::LOG)?;
+    let rebuilt = map_of(&entries);
+    refuse(refusal::RUNS, rebuilt.len() > RUNS)?;
+    map.copy_from_slice(&encode_map(&rebuilt));
+    Ok(())
+}
+
+/// The piece's range with its number. A sum past 2^64 is past EOF like any other.
+fn piece_run(first: u64, length: u64, number: u64, image_length: u64) -> Result<Run, Refusal> {
+    let end = u128::from(first) + u128::from(length);
+    let past = end > u128::from(image_length) || end > u128::from(EOF) + 1;
+    refuse(refusal::PIECE, length == 0 || past)?;
+    refuse(refusal::NUMBER, number == 0 || number > HIGHEST)?;
+    Ok(Run { first, last: first + (length - 1), number })
+}
+
+/// The runs of a map, unless it is of another length or not sound.
+pub fn decode_map(bytes: &[u8]) -> Option<Vec<Run>> {
+    if bytes.len() != MAP_BYTES {
+        return None;
+    }
+    let (runs, after) = array(bytes, RUN_BYTES, RUNS, run)?;
+    (sound_map(&runs) && zero(after)).then_some(runs)
+}
+
+/// The entries of a log, unless it is of another length or not sound.
+/// Bytes after the last entry may be anything.
+pub fn decode_log(bytes: &[u8]) -> Option<Vec<Run>> {
+    if bytes.len() != LOG_BYTES {
+        return None;
+    }
+    let (entries, _) = array(bytes, RUN_BYTES, ENTRIES, run)?;
+    sound_log(&entries).then_some(entries)
+}
+
+/// The bytes of a map, with zero bytes after its runs.
+fn encode_map(runs: &[Run]) -> Vec<u8> {
+    let mut bytes = vec![0; MAP_BYTES];
+    put_array(&mut bytes, RUN_BYTES, runs, put_run);
+    bytes
+}
+
+fn run(bytes: &[u8]) -> Option<Run> {
+    Some(Run { first: hyper(bytes, 0), last: hyper(bytes, 8), number: unsigned(bytes, 16) })
+}
+
+fn put_run(bytes: &mut [u8], run: &Run) {
+    put_hyper(bytes, 0, run.first);
+    put_hyper(bytes, 8, run.last);
+    put_unsigned(bytes, 16, run.number);
+}

@@ -1,0 +1,224 @@
+//! The settled examples of document 01, whole: P1 to P11, and those that are run only.
+
+mod runs;
+mod transcript;
+
+use gilboreth_host::model::line::line;
+use gilboreth_host::model::locks::{EVENTS_BYTES, TABLE_BYTES};
+use gilboreth_host::model::stripe::{note, restart, write, LOG_BYTES, MAP_BYTES};
+use runs::runs;
+use transcript::{play, play_on};
+
+/// A table written out by hand: handles issued, the last number of stripe 0, and the records.
+fn table(issued: u32, number: u32, records: &[([u32; 6], u64, u64)]) -> Vec<u8> {
+    let mut head = [0; 18];
+    (head[0], head[1], head[17]) = (issued, number, records.len() as u32);
+    let integers = |integers: &[u32]| integers.iter().flat_map(|n| n.to_be_bytes()).collect();
+    let mut bytes: Vec<u8> = integers(&head);
+    for (fields, first, last) in records {
+        bytes.extend(integers(fields));
+        bytes.extend(first.to_be_bytes());
+        bytes.extend(last.to_be_bytes());
+    }
+    bytes.resize(10_312, 0);
+    bytes
+}
+
+#[test]
+fn sizes() {
+    assert_eq!((TABLE_BYTES, EVENTS_BYTES), (10_312, 11_268));
+    assert_eq!((MAP_BYTES, LOG_BYTES), (20_484, 40_964));
+}
+
+#[test]
+fn p1() {
+    let end = play(
+        "
+        R,0,0,2,0,20   =,0,1  G,1,0,0,2,1,1,0,EOF
+        R,1,0,2,10,30  =,0,2  V,1,0,0,2,2,1,0,EOF
+        A,0,1          =,0,1  G,2,1,0,2,1,2,10,EOF
+        R,2,0,1,0,5    =,0,3
+        F,0,1          =,0,1  G,3,2,0,1,1,0,0,9
+        F,1,2          =,0,2
+        ",
+    );
+    // The PR lock of client 2 remains: handle, client, stripe, mode, state, number, first, last.
+    assert!(end == table(3, 2, &[([3, 2, 0, 1, 1, 0], 0, 9)]));
+}
+
+#[test]
+fn p1_through_the_line_program() {
+    let input = b"R,0,0,2,0,20\nR,1,0,2,10,30\nA,0,1\nR,2,0,1,0,5\nF,0,1\nF,1,2\n";
+    let output = "=,0,1\r\n\
+        G,1,0,0,2,1,1,0,9223372036854775807\r\n\
+        =,0,2\r\n\
+        V,1,0,0,2,2,1,0,9223372036854775807\r\n\
+        =,0,1\r\n\
+        G,2,1,0,2,1,2,10,9223372036854775807\r\n\
+        =,0,3\r\n\
+        =,0,1\r\n\
+        G,3,2,0,1,1,0,0,9\r\n\
+        =,0,2\r\n";
+    assert_eq!(String::from_utf8(line(input)).unwrap(), output);
+}
+
+#[test]
+fn p2() {
+    play(
+        "
+        R,0,0,2,0,9  =,0,1  G,1,0,0,2,1,1,0,EOF
+        R,1,0,2,0,9  =,0,2  V,1,0,0,2,2,1,0,EOF
+        R,2,0,2,0,9  =,0,3
+        R,3,0,2,0,9  =,0,4
+        A,0,1        =,0,1  G,2,1,0,2,3,2,0,9  G,3,2,0,2,3,3,0,9  G,4,3,0,2,1,4,0,EOF
+        ",
+    );
+}
+
+#[test]
+fn p3() {
+    let end = play(
+        "
+        R,0,0,2,0,9  =,0,1  G,1,0,0,2,1,1,0,EOF
+        R,1,0,1,0,9  =,0,2  V,1,0,0,2,2,1,0,EOF
+        A,0,1        =,0,1
+        ",
+    );
+    // A is canceling, B waits with number 0.
+    let a = ([1, 0, 0, 2, 3, 1], 0, 9_223_372_036_854_775_807);
+    let b = ([2, 1, 0, 1, 0, 0], 0, 9);
+    assert!(end == table(2, 1, &[a, b]));
+}
+
+/// A lock from byte 10 on keeps the BW lock at [0,9].
+#[test]
+fn p4() {
+    play(
+        "
+        R,9,0,4,10,20  =,0,1   G,1,9,0,4,1,1,10,EOF
+        R,0,0,3,0,9    =,0,2   G,2,0,0,3,1,2,0,9
+        R,1,0,2,0,9    =,0,3   V,2,0,0,3,2,2,0,9
+        A,0,2          =,0,2
+        D,0,2          =,0,2   G,3,1,0,2,1,3,0,9
+        D,0,2          =,11,0
+        ",
+    );
+}
+
+#[test]
+fn p5() {
+    play(
+        "
+        R,0,0,2,EOF,EOF                  =,0,1  G,1,0,0,2,1,1,EOF,EOF
+        R,0,1,2,0,9223372036854775808    =,6,0
+        R,0,1,2,EOF,9223372036854775808  =,6,0
+        R,0,1,2,5,4                      =,6,0
+        ",
+    );
+}
+
+#[test]
+fn p6_and_p7() {
+    play(
+        "
+        R,63,0,1,0,0  =,0,1  G,1,63,0,1,1,0,0,EOF
+        R,64,0,1,0,0  =,3,0
+        R,0,16,0,0,0  =,4,0
+        ",
+    );
+}
+
+/// A piece of P8: its first byte, bytes and number.
+type Piece = (u64, &'static [u8], u64);
+
+const A: Piece = (0, b"AAAAAA", 2);
+const B: Piece = (4, b"BBBB", 1);
+const C: Piece = (5, b"CCC", 3);
+const ORDERS: [[Piece; 3]; 6] = [[A, B, C], [A, C, B], [B, A, C], [B, C, A], [C, A, B], [C, B, A]];
+
+/// The map and log after the pieces are noted in this order on an image of ten bytes.
+fn noted(order: [Piece; 3]) -> (Vec<u8>, Vec<u8>) {
+    let (mut map, mut log) = (vec![0; MAP_BYTES], vec![0; LOG_BYTES]);
+    for (first, piece, number) in order {
+        assert_eq!(note(&mut map, &mut log, first, piece.len() as u64, number, 10), 0);
+    }
+    (map, log)
+}
+
+#[test]
+fn p8() {
+    for order in ORDERS {
+        let (map, _) = noted(order);
+        assert!(map == runs(20_484, &[(0, 4, 2), (5, 7, 3)]));
+        for order in ORDERS {
+            let mut image = *b"..........";
+            for (first, piece, number) in order {
+                assert_eq!(write(&map, &mut image, first, piece, number), 0);
+            }
+            assert_eq!(&image, b"AAAAACCC..");
+        }
+    }
+}
+
+/// The log keeps the entries in note order.
+#[test]
+fn p8_log() {
+    let (_, log) = noted([A, B, C]);
+    assert!(log == runs(40_964, &[(0, 5, 2), (4, 7, 1), (5, 7, 3)]));
+}
+
+#[test]
+fn p9() {
+    let (mut map, mut log) = noted([A, B, C]);
+    assert_eq!(note(&mut map, &mut log, 8, 2, 3, 10), 0);
+    assert!(map == runs(20_484, &[(0, 4, 2), (5, 9, 3)]));
+    let mut rebuilt = vec![0xEE; MAP_BYTES];
+    assert_eq!(restart(&mut rebuilt, &log), 0);
+    assert!(rebuilt == map);
+}
+
+#[test]
+fn p10_and_p11() {
+    let (mut map, mut log) = noted([A, B, C]);
+    let mut image = *b"..........";
+    assert_eq!(note(&mut map, &mut log, 8, 2, 3, 10), 0);
+    assert_eq!(write(&map, &mut image, 8, b"DD", 4), 18);
+    assert_eq!(write(&map, &mut image, 8, b"", 3), 14);
+    assert_eq!(note(&mut map, &mut log, 8, 0, 3, 10), 14);
+    assert_eq!(&image, b"..........");
+}
+
+/// PR locks never conflict, so 256 of them stand on one byte. A refused request takes no handle.
+#[test]
+fn run_only_records() {
+    let mut table = vec![0; TABLE_BYTES];
+    for handle in 1..=256 {
+        let grant = format!("R,0,0,1,0,0 =,0,{handle} G,{handle},0,0,1,1,0,0,EOF");
+        play_on(&mut table, &grant);
+    }
+    play_on(
+        &mut table,
+        "
+        R,0,0,1,0,0  =,8,0
+        F,0,100      =,0,100
+        R,0,0,1,0,0  =,0,257  G,257,0,0,1,1,0,0,EOF
+        R,0,0,1,0,0  =,8,0
+        ",
+    );
+}
+
+/// 1,024 pieces of one byte on every other byte need 1,024 runs.
+#[test]
+fn run_only_runs() {
+    let (mut map, mut log) = (vec![0; MAP_BYTES], vec![0; LOG_BYTES]);
+    let mut list: Vec<_> = (0..1_024).map(|place| (2 * place, 2 * place, 5)).collect();
+    for (first, _, _) in &list {
+        assert_eq!(note(&mut map, &mut log, *first, 1, 5, 4_096), 0);
+    }
+    assert_eq!(note(&mut map, &mut log, 2_048, 1, 5, 4_096), 16);
+    assert_eq!(note(&mut map, &mut log, 1_000, 1, 5, 4_096), 0);
+    assert!(map == runs(20_484, &list));
+    assert_eq!(note(&mut map, &mut log, 1_000, 1, 6, 4_096), 0);
+    list[500].2 = 6;
+    assert!(map == runs(20_484, &list));
+}

@@ -1,0 +1,175 @@
+//! Laws of the lock table, over random sessions with few stripes and crowded ranges.
+
+use gilboreth_host::model::locks::{answer, decode, encode, Answer, EVENTS_BYTES, TABLE_BYTES};
+use gilboreth_host::model::modes::{Mode, State};
+use gilboreth_host::model::serve::{obstacle, serve, successor, Event, Kind, Message};
+use gilboreth_host::model::table::{Record, Table, STRIPES};
+use gilboreth_host::model::EOF;
+use gilboreth_host::random::{for_seeds, Random};
+
+/// One table as values and as bytes, and what the session has seen of it.
+struct Session {
+    table: Table,
+    bytes: Vec<u8>,
+    /// The requests as they were asked; the first has handle 1.
+    asked: Vec<Record>,
+    /// The write grants of each stripe.
+    write_grants: [u64; STRIPES],
+    /// Grants that came canceling, grants that something stopped before EOF, and revocations.
+    seen: [u64; 3],
+}
+
+impl Session {
+    fn new() -> Session {
+        Session {
+            table: Table::default(),
+            bytes: vec![0; TABLE_BYTES],
+            asked: Vec::new(),
+            write_grants: [0; STRIPES],
+            seen: [0; 3],
+        }
+    }
+
+    /// Serves a message on the values and on the bytes, and tests every law.
+    fn serve(&mut self, message: Message) {
+        let (old_table, old_bytes) = (self.table.clone(), self.bytes.clone());
+        let old_buffer = vec![0xEE; EVENTS_BYTES];
+        let mut buffer = old_buffer.clone();
+        let answered = answer(&mut self.bytes, &mut buffer, message);
+        match serve(&mut self.table, message) {
+            Err(refusal) => {
+                assert_eq!(answered, Answer { refusal, handle: 0, events: 0 });
+                assert!(self.table == old_table);
+                assert!(self.bytes == old_bytes && buffer == old_buffer);
+            }
+            Ok(accepted) => {
+                let (handle, events) = (accepted.handle, accepted.events.len() as u64);
+                assert_eq!(answered, Answer { refusal: 0, handle, events });
+                self.remember(message, handle);
+                self.check_table();
+                self.check_events(&accepted.events);
+            }
+        }
+    }
+
+    /// An accepted request takes the next handle.
+    fn remember(&mut self, message: Message, handle: u64) {
+        if let Message::Request { client, stripe, mode, first, last } = message {
+            let mode = Mode::of_code(mode).unwrap();
+            let (state, number) = (State::Waiting, 0);
+            self.asked.push(Record { handle, client, stripe, mode, state, number, first, last });
+            assert_eq!(handle, self.asked.len() as u64);
+        }
+    }
+
+    /// The table is sound and settled, and its bytes and values say the same.
+    fn check_table(&self) {
+        assert!(self.table.sound());
+        assert!(self.bytes == encode(&self.table));
+        assert_eq!(decode(&self.bytes).as_ref(), Some(&self.table));
+        let records = || self.table.records.iter();
+        for request in records().filter(|record| record.waiting()) {
+            assert!(records().any(|other| obstacle(request, other)), "{request:?}");
+            let wanted =
+                |lock: &Record| lock.state == State::Granted && request.conflicts_with(lock);
+            assert!(!records().any(wanted), "{request:?}");
+        }
+    }
+
+    /// Grants in rising handle, then revocations in rising handle, at most one event for a record.
+    fn check_events(&mut self, events: &[Event]) {
+        let order: Vec<_> = events.iter().map(|e| (e.kind as u64, e.record.handle)).collect();
+        assert!(order.windows(2).all(|pair| pair[0] < pair[1]), "{order:?}");
+        for (place, event) in events.iter().enumerate() {
+            let record = &event.record;
+            let same = |other: &&Event| other.record.handle == record.handle;
+            assert_eq!(events.iter().filter(same).count(), 1);
+            assert!(self.table.records.contains(record));
+            match event.kind {
+                Kind::Grant => self.check_grant(record, &events[place + 1..]),
+                Kind::Revocation => {
+                    self.seen[2] += 1;
+                    assert_eq!(record.state, State::Asked);
+                    let wants = |r: &Record| r.waiting() && r.conflicts_with(record);
+                    assert!(self.table.records.iter().any(wants));
+                }
+            }
+        }
+    }
+
+    /// A grant is judged on the table as it stood then: what was granted after it still waits.
+    fn check_grant(&mut self, granted: &Record, later: &[Event]) {
+        let asked = self.asked[granted.handle as usize - 1];
+        let is_later =
+            |r: &Record| later.iter().any(|e| e.kind == Kind::Grant && e.record.handle == r.handle);
+        let then = |r: &Record| if is_later(r) { self.asked[r.handle as usize - 1] } else { *r };
+        let records = self.table.records.iter().filter(|r| r.handle != granted.handle);
+        let others: Vec<Record> = records.map(then).collect();
+
+        let canceling = others.iter().any(|other| successor(&asked, other));
+        let state = if canceling { State::Canceling } else { State::Granted };
+        let (number, last) = (granted.number, granted.last);
+        assert_eq!(*granted, Record { state, number, last, ..asked });
+        assert!(!others.iter().any(|other| obstacle(&asked, other)));
+        if canceling {
+            self.seen[0] += 1;
+            assert_eq!(last, asked.last);
+        } else {
+            assert!(last >= asked.last);
+            assert!(!others.iter().any(|other| granted.conflicts_with(other)));
+            if last != EOF {
+                self.seen[1] += 1;
+                let more = Record { last: last + 1, ..*granted };
+                assert!(others.iter().any(|other| more.conflicts_with(other)));
+            }
+        }
+
+        if asked.mode == Mode::PR {
+            assert_eq!(number, 0);
+        } else {
+            let write_grants = &mut self.write_grants[asked.stripe as usize];
+            *write_grants += 1;
+            assert_eq!(number, *write_grants);
+        }
+    }
+
+    /// A request on a crowded place, or a message on some record, most often a held one,
+    /// and now and then by another client.
+    fn message(&self, random: &mut Random, requests: u64) -> Message {
+        if self.table.records.is_empty() || random.below(10) < requests {
+            let (client, stripe, mode) = (random.below(4), random.below(2), 1 + random.below(4));
+            let start = if random.once_in(4) { EOF - 24 } else { 0 };
+            let first = start + random.below(24);
+            let last = (first + random.below(8)).min(EOF);
+            return Message::Request { client, stripe, mode, first, last };
+        }
+        let any = random.once_in(4);
+        let mut records: Vec<&Record> = self.table.records.iter().collect();
+        records.retain(|record| any || record.held());
+        let Record { handle, mut client, .. } =
+            *records[random.below(records.len() as u64) as usize];
+        if random.once_in(20) {
+            client = random.below(4);
+        }
+        match random.below(4) {
+            0 | 1 => Message::Acknowledge { client, handle },
+            2 => Message::Downgrade { client, handle },
+            _ => Message::Release { client, handle },
+        }
+    }
+}
+
+/// The sessions differ in how fast their tables fill; the fullest meet the limit of 256 records.
+#[test]
+fn sessions() {
+    for (requests, calls) in [(3, 300), (4, 300), (6, 300), (9, 320)] {
+        for_seeds(0..12, |random| {
+            let mut session = Session::new();
+            for _ in 0..calls {
+                let message = session.message(random, requests);
+                session.serve(message);
+            }
+            assert!(session.seen.iter().all(|&times| times > 0), "{:?}", session.seen);
+        });
+    }
+}

@@ -1,0 +1,157 @@
+//! Every refusal number is reached, in its order, and a refused call changes no byte.
+//!
+//! Each call starts with every fault at once. The faults are mended one by one,
+//! and each time the next number answers.
+
+mod runs;
+
+use gilboreth_host::model::locks::{answer, encode, Answer};
+use gilboreth_host::model::modes::{Mode, State};
+use gilboreth_host::model::serve::Message;
+use gilboreth_host::model::stripe;
+use gilboreth_host::model::table::{Record, Table};
+use runs::runs;
+
+const EVENTS: usize = 11_268;
+const MAP: usize = 20_484;
+const LOG: usize = 40_964;
+
+/// A table of granted PR locks of client 0, with handles from 1.
+fn table(issued: u64, records: u64) -> Vec<u8> {
+    let record = |handle| Record {
+        handle,
+        client: 0,
+        stripe: 0,
+        mode: Mode::PR,
+        state: State::Granted,
+        number: 0,
+        first: 0,
+        last: 9,
+    };
+    encode(&Table { issued, records: (1..=records).map(record).collect(), ..Table::default() })
+}
+
+/// One byte too many makes any list another one, so that neither length nor content is good.
+fn damaged(mut bytes: Vec<u8>) -> Vec<u8> {
+    bytes.push(0);
+    bytes
+}
+
+/// The message must be answered with this number; a refused one changes no byte.
+fn answers(refusal: u64, table: &[u8], event_bytes: usize, message: Message) {
+    let (mut new_table, mut events) = (table.to_vec(), vec![0xEE; event_bytes]);
+    let answered = answer(&mut new_table, &mut events, message);
+    assert_eq!(answered.refusal, refusal, "{message:?}");
+    if refusal != 0 {
+        assert_eq!(answered, Answer { refusal, handle: 0, events: 0 });
+        assert!(new_table == table && events == vec![0xEE; event_bytes]);
+    }
+}
+
+#[test]
+fn request() {
+    let message =
+        |client, stripe, mode, first, last| Message::Request { client, stripe, mode, first, last };
+    let full = table(4_294_967_295, 256);
+    answers(1, &damaged(full.clone()), EVENTS - 1, message(64, 16, 0, 5, 4));
+    answers(2, &damaged(full.clone()), EVENTS, message(64, 16, 0, 5, 4));
+    answers(3, &full, EVENTS, message(64, 16, 0, 5, 4));
+    answers(4, &full, EVENTS, message(63, 16, 0, 5, 4));
+    answers(5, &full, EVENTS, message(63, 15, 0, 5, 4));
+    answers(5, &full, EVENTS, message(63, 15, 5, 5, 4));
+    answers(6, &full, EVENTS, message(63, 15, 4, 5, 4));
+    answers(7, &full, EVENTS, message(63, 15, 4, 5, 5));
+    answers(8, &table(4_294_967_294, 256), EVENTS, message(63, 15, 4, 5, 5));
+    answers(0, &table(4_294_967_294, 255), EVENTS, message(63, 15, 4, 5, 5));
+}
+
+/// A message of client and handle.
+type Naming = fn(u64, u64) -> Message;
+
+/// Handle 1 is a granted PR lock of client 0, which only release accepts.
+#[test]
+fn acknowledge_downgrade_and_release() {
+    let messages: [(Naming, u64); 3] = [
+        (|client, handle| Message::Acknowledge { client, handle }, 11),
+        (|client, handle| Message::Downgrade { client, handle }, 11),
+        (|client, handle| Message::Release { client, handle }, 0),
+    ];
+    let table = table(2, 1);
+    for (message, last) in messages {
+        answers(1, &damaged(table.clone()), EVENTS - 1, message(64, 2));
+        answers(2, &damaged(table.clone()), EVENTS, message(64, 2));
+        answers(3, &table, EVENTS, message(64, 2));
+        answers(9, &table, EVENTS, message(63, 2));
+        answers(10, &table, EVENTS, message(63, 1));
+        answers(last, &table, EVENTS, message(0, 1));
+    }
+}
+
+/// Entries or runs of one byte, on every other byte.
+fn apart(length: usize, count: u64) -> Vec<u8> {
+    let list: Vec<_> = (0..count).map(|place| (2 * place, 2 * place, 1)).collect();
+    runs(length, &list)
+}
+
+/// A log with this many equal entries.
+fn log(count: usize) -> Vec<u8> {
+    runs(LOG, &vec![(0, 0, 1); count])
+}
+
+/// With 1,024 runs and 2,048 entries, a new run is 16 and an old one is 17.
+#[test]
+fn note() {
+    let answers = |refusal: u64, map: &[u8], log: &[u8], first, length, number, image_length| {
+        let (mut new_map, mut new_log) = (map.to_vec(), log.to_vec());
+        let answered =
+            stripe::note(&mut new_map, &mut new_log, first, length, number, image_length);
+        assert_eq!(answered, refusal);
+        assert_eq!(new_map == map, refusal != 0);
+        assert_eq!(new_log == log, refusal != 0);
+    };
+    let map = apart(MAP, 1_024);
+    answers(12, &damaged(map.clone()), &damaged(log(2_048)), 2_048, 0, 0, 4_096);
+    answers(13, &map, &damaged(log(2_048)), 2_048, 0, 0, 4_096);
+    answers(14, &map, &log(2_048), 2_048, 0, 0, 4_096);
+    answers(14, &map, &log(2_048), 2_048, 1, 0, 2_048);
+    answers(15, &map, &log(2_048), 2_048, 1, 0, 4_096);
+    answers(15, &map, &log(2_048), 2_048, 1, 4_294_967_296, 4_096);
+    answers(16, &map, &log(2_048), 2_048, 1, 2, 4_096);
+    answers(16, &map, &log(2_047), 2_048, 1, 2, 4_096);
+    answers(17, &map, &log(2_048), 2_046, 1, 2, 4_096);
+    answers(0, &map, &log(2_047), 2_046, 1, 2, 4_096);
+}
+
+#[test]
+fn write() {
+    let map = runs(MAP, &[(0, 5, 2)]);
+    let answers = |refusal: u64, map: &[u8], first, piece: &[u8], number, image: &[u8]| {
+        let mut new_image = *b"......";
+        let answered = stripe::write(map, &mut new_image, first, piece, number);
+        assert_eq!(answered, refusal);
+        assert_eq!(new_image, image);
+    };
+    answers(12, &damaged(map.clone()), 7, b"AB", 0, b"......");
+    answers(14, &map, 7, b"AB", 0, b"......");
+    answers(14, &map, 5, b"AB", 0, b"......");
+    answers(14, &map, 4, b"", 0, b"......");
+    answers(15, &map, 4, b"AB", 0, b"......");
+    answers(15, &map, 4, b"AB", 4_294_967_298, b"......");
+    answers(18, &map, 4, b"AB", 3, b"......");
+    answers(0, &map, 4, b"AB", 2, b"....AB");
+}
+
+/// Of the map only the length counts: 0xEE bytes are no sound map.
+#[test]
+fn restart() {
+    let answers = |refusal: u64, length: usize, log: &[u8]| {
+        let mut map = vec![0xEE; length];
+        assert_eq!(stripe::restart(&mut map, log), refusal);
+        assert_eq!(map == vec![0xEE; length], refusal != 0);
+    };
+    answers(12, MAP - 1, &damaged(apart(LOG, 1_025)));
+    answers(12, MAP + 1, &damaged(apart(LOG, 1_025)));
+    answers(13, MAP, &damaged(apart(LOG, 1_025)));
+    answers(16, MAP, &apart(LOG, 1_025));
+    answers(0, MAP, &apart(LOG, 1_024));
+}

@@ -1,0 +1,75 @@
+//! Transcripts: one call to a line. First the message as the line program reads it,
+//! then the answer and the events that must come back, with spaces between.
+
+use gilboreth_host::model::line::line;
+use gilboreth_host::model::locks::{
+    acknowledge, downgrade, release, request, Answer, EVENTS_BYTES, TABLE_BYTES,
+};
+
+/// Plays a transcript from the empty table, and answers the table's bytes at its end.
+/// The line program must give the same lines.
+pub fn play(transcript: &str) -> Vec<u8> {
+    let mut table = vec![0; TABLE_BYTES];
+    play_on(&mut table, transcript);
+    let (mut input, mut output) = (String::new(), String::new());
+    for call in calls(transcript) {
+        input += &format!("{}\n", call[0]);
+        output += &call[1..].iter().map(|line| format!("{line}\r\n")).collect::<String>();
+    }
+    assert_eq!(String::from_utf8(line(input.as_bytes())).unwrap(), output);
+    table
+}
+
+/// Plays a transcript on a table, through the four entries on bytes.
+pub fn play_on(table: &mut [u8], transcript: &str) {
+    for call in calls(transcript) {
+        assert_eq!(served(table, &call[0]), call[1..], "{}", call[0]);
+    }
+}
+
+fn calls(transcript: &str) -> Vec<Vec<String>> {
+    let text = transcript.replace("EOF", "9223372036854775807");
+    let words = |call: &str| call.split_whitespace().map(str::to_string).collect::<Vec<_>>();
+    text.lines().map(words).filter(|call| !call.is_empty()).collect()
+}
+
+/// The answer and the events of one message, read from the event buffer by hand.
+/// A refused message changes no byte; an accepted one changes none after its events.
+fn served(table: &mut [u8], message: &str) -> Vec<String> {
+    let (letter, fields) = message.split_once(',').unwrap();
+    let n: Vec<u64> = fields.split(',').map(|field| field.parse().unwrap()).collect();
+    let mut buffer = vec![0xEE; EVENTS_BYTES + 5];
+    let (old_table, old_buffer) = (table.to_vec(), buffer.clone());
+    let answer = match letter {
+        "R" => request(table, &mut buffer, n[0], n[1], n[2], n[3], n[4]),
+        "A" => acknowledge(table, &mut buffer, n[0], n[1]),
+        "D" => downgrade(table, &mut buffer, n[0], n[1]),
+        "F" => release(table, &mut buffer, n[0], n[1]),
+        _ => panic!("no such message: {message}"),
+    };
+    let Answer { refusal, handle, events } = answer;
+    let mut lines = vec![format!("=,{refusal},{handle}")];
+    if refusal == 0 {
+        let end = 4 + 44 * events as usize;
+        assert_eq!(buffer[..4], (events as u32).to_be_bytes());
+        assert_eq!(buffer[end..], old_buffer[end..]);
+        lines.extend(buffer[4..end].chunks(44).map(event));
+    } else {
+        assert_eq!(events, 0);
+        assert!(table == old_table && buffer == old_buffer);
+    }
+    lines
+}
+
+/// One event as the line program writes it: seven integers, then two hypers.
+fn event(bytes: &[u8]) -> String {
+    let integer = |at: usize| u32::from_be_bytes(bytes[at..at + 4].try_into().unwrap());
+    let hyper = |at: usize| u64::from_be_bytes(bytes[at..at + 8].try_into().unwrap());
+    let letter = match integer(0) {
+        1 => 'G',
+        2 => 'V',
+        kind => panic!("no such kind: {kind}"),
+    };
+    let integers: String = (1..7).map(|place| format!(",{}", integer(4 * place))).collect();
+    format!("{letter}{integers},{},{}", hyper(28), hyper(36))
+}
