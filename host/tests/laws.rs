@@ -134,7 +134,7 @@ impl Session {
     }
 
     /// A request on a crowded place, or a message on some record, most often a held one,
-    /// and now and then by another client.
+    /// and now and then by another client. Where one waits, another is held.
     fn message(&self, random: &mut Random, requests: u64) -> Message {
         if self.table.records.is_empty() || random.below(10) < requests {
             let (client, stripe, mode) = (random.below(4), random.below(2), 1 + random.below(4));

@@ -31,7 +31,7 @@ fn table(issued: u64, records: u64) -> Vec<u8> {
     encode(&Table { issued, records: (1..=records).map(record).collect(), ..Table::default() })
 }
 
-/// One byte too many makes any list another one, so that neither length nor content is good.
+/// With one byte too many, a table, map or log is of another length.
 fn damaged(mut bytes: Vec<u8>) -> Vec<u8> {
     bytes.push(0);
     bytes

@@ -160,6 +160,7 @@ module _ {A : Type 0} where
       more : (t : Bool) → count p (keep q xs) ≤ count p xs → cond t (suc (count p (keep q xs))) (count p (keep q xs)) ≤ cond t (suc (count p xs)) (count p xs)
       more true h = omega arith
       more false h = h
+
       less : (t : Bool) → count p (keep q xs) ≤ count p xs → count p (keep q xs) ≤ cond t (suc (count p xs)) (count p xs)
       less true h = omega arith
       less false h = h

@@ -58,6 +58,7 @@ module _ {A : Type 0} where
       where
         later : T (all (f x) ys)
         later = and-l (all (f x) ys) (pairs f ys) u
+
         go : (b : Bool) → T (not b) → T (pairs f (xs ++ keep q ys)) → T (pairs f (x ∷ xs ++ cond b (x ∷ keep q ys) (keep q ys)))
         go true n h = absurd n
         go false n h = and-i (all (f x) (xs ++ keep q ys)) (pairs f (xs ++ keep q ys)) (all-join (f x) xs (keep q ys) (sub-all (f x) s later) (all-keep (f x) q ys later)) h
@@ -65,9 +66,11 @@ module _ {A : Type 0} where
       where
         later : T (all (f y) ys)
         later = and-l (all (f y) ys) (pairs f ys) u
+
         earlier : (zs : List A) → T (all (f y) zs) → T (all (λ z. f z y) zs)
         earlier [] v = tt
         earlier (z ∷ zs) v = and-i (f z y) (all (λ z. f z y) zs) (turn y z (and-l (f y z) (all (f y) zs) v)) (earlier zs (and-r (f y z) (all (f y) zs) v))
+
         go : (b : Bool) → T (pairs f (xs ++ keep q ys)) → T (pairs f (xs ++ cond b (y ∷ keep q ys) (keep q ys)))
         go true h = pairs-put f xs y (keep q ys) h (earlier xs (sub-all (f y) s later)) (all-keep (f y) q ys later)
         go false h = h

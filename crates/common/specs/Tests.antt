@@ -2,6 +2,7 @@
 use Prim.Native.Nat.{ℕ, zero, suc}
 use mathlib.Core.Bool.{Bool, true, false, _&&_, _||_, cond}
 use mathlib.Core.List.{List, [], _∷_}
+use lib.Dec.{eqb}
 
 abbrev pub implies : Bool → Bool → Bool
 implies true b = b
@@ -30,6 +31,10 @@ module _ {A : Type 0} where
   abbrev pub pairs : (A → A → Bool) → List A → Bool
   pairs f [] = true
   pairs f (x ∷ xs) = all (f x) xs && pairs f xs
+
+-- each byte is 0
+abbrev pub zeros : List ℕ → Bool
+zeros = all (λ b. eqb b 0)
 
 -- k, k + 1, .. : n numbers
 abbrev pub upFrom : ℕ → ℕ → List ℕ

@@ -37,8 +37,20 @@ pub record Calm (r r′ : Lock) : Type 0 where
 
 pub calm-refl : (r : Lock) → Calm r r
 calm-refl r = record {
-    handle-is = refl; client-is = refl; stripe-is = refl; number-is = refl; first-is = refl; last-is = refl; waits-is = refl; writes-is = refl;
-    state-hi = λ h. h; mode-in = λ h. h; mode-mid = λ h. h; stays-pr = λ h. h; stays-nbw = λ h. h }
+  handle-is = refl;
+  client-is = refl;
+  stripe-is = refl;
+  number-is = refl;
+  first-is = refl;
+  last-is = refl;
+  waits-is = refl;
+  writes-is = refl;
+  state-hi = λ h. h;
+  mode-in = λ h. h;
+  mode-mid = λ h. h;
+  stays-pr = λ h. h;
+  stays-nbw = λ h. h;
+}
 
 still-held : (r r′ : Lock) → Calm r r′ → T (held r′) → T (held r)
 still-held r r′ c t = subst (λ (b : Bool). T (not b)) (c .waits-is) t
@@ -50,13 +62,21 @@ calm-valid : (issued : ℕ) (lasts : List ℕ) (r r′ : Lock) → Calm r r′ �
 calm-valid issued lasts r r′ c v =
     let m = c .mode-in (v .mode-lo, v .mode-hi) in
     record {
-        handle-lo = omega arith; handle-hi = omega arith; client-hi = omega arith; stripe-hi = omega arith; mode-lo = m .0; mode-hi = m .1;
-        state-hi = c .state-hi (v .state-hi); ordered = omega arith; ends = omega arith;
-        number-of = λ h.
-            let n = v .number-of (subst T e h) in
-            let z : getD lasts (r′ .stripe) 0 ≡ getD lasts (r .stripe) 0 = ap (λ (i : ℕ). getD lasts i 0) (c .stripe-is) in
-            (omega arith, omega arith);
-        number-no = λ h. c .number-is ∙ v .number-no (subst (λ (b : Bool). T (not b)) e h) }
+      handle-lo = omega arith;
+      handle-hi = omega arith;
+      client-hi = omega arith;
+      stripe-hi = omega arith;
+      mode-lo = m .0;
+      mode-hi = m .1;
+      state-hi = c .state-hi (v .state-hi);
+      ordered = omega arith;
+      ends = omega arith;
+      number-of = λ h.
+          let n = v .number-of (subst T e h) in
+          let z : getD lasts (r′ .stripe) 0 ≡ getD lasts (r .stripe) 0 = ap (λ (i : ℕ). getD lasts i 0) (c .stripe-is) in
+          (omega arith, omega arith);
+      number-no = λ h. c .number-is ∙ v .number-no (subst (λ (b : Bool). T (not b)) e h);
+    }
   where
     e : (held r′ && writes r′) ≡ (held r && writes r)
     e = ap₂ (λ (a b : Bool). not a && b) (c .waits-is) (c .writes-is)
@@ -69,12 +89,13 @@ calm-yields a b a′ b′ c d y =
 
 calm-friends : (a b a′ b′ : Lock) → Calm a a′ → Calm b b′ → Friends a b → Friends a′ b′
 calm-friends a b a′ b′ c d f = record {
-    differ = λ h k e p q n.
-        f .differ (still-held a a′ c h) (still-held b b′ d k) (sym (c .stripe-is) ∙ e ∙ d .stripe-is) (still-writes a a′ c p) (still-writes b b′ d q)
-        (sym (c .number-is) ∙ n ∙ d .number-is);
-    clear = λ h k e p q.
-        moved
-        (f .clear (still-held a a′ c h) (still-held b b′ d k) (sym (c .stripe-is) ∙ e ∙ d .stripe-is) (omega arith) (omega arith)) }
+  differ = λ h k e p q n.
+      f .differ (still-held a a′ c h) (still-held b b′ d k) (sym (c .stripe-is) ∙ e ∙ d .stripe-is) (still-writes a a′ c p) (still-writes b b′ d q)
+      (sym (c .number-is) ∙ n ∙ d .number-is);
+  clear = λ h k e p q.
+      moved
+      (f .clear (still-held a a′ c h) (still-held b b′ d k) (sym (c .stripe-is) ∙ e ∙ d .stripe-is) (omega arith) (omega arith));
+}
   where
     moved : Clear a b → Clear a′ b′
     moved (inl p) = inl (c .stays-pr (p .0), d .stays-pr (p .1))
@@ -100,12 +121,13 @@ module _ (issued : ℕ) (lasts : List ℕ) (g : Lock → Lock) (calm : (r : Lock
 
   pub changed : Sound issued lasts rs → Sound issued lasts (map g rs)
   changed S = record {
-      few = S .few;
-      sixteen = S .sixteen;
-      fits = rw length-map (S .fits);
-      each = all-map (valid issued lasts) (valid issued lasts) g (λ r t. →valid issued lasts (g r) (calm-valid issued lasts r (g r) (calm r) (valid→ issued lasts r t))) rs (S .each);
-      apart = pairs-map agree agree g calm-agree rs (S .apart);
-      rooms = all-imp (room issued lasts rs) (room issued lasts (map g rs)) calm-room stripes (S .rooms) }
+    few = S .few;
+    sixteen = S .sixteen;
+    fits = rw length-map (S .fits);
+    each = all-map (valid issued lasts) (valid issued lasts) g (λ r t. →valid issued lasts (g r) (calm-valid issued lasts r (g r) (calm r) (valid→ issued lasts r t))) rs (S .each);
+    apart = pairs-map agree agree g calm-agree rs (S .apart);
+    rooms = all-imp (room issued lasts rs) (room issued lasts (map g rs)) calm-room stripes (S .rooms);
+  }
 
 -- The three changes are such
 pub calm-revoked : (rs : List Lock) (r : Lock) → Calm r (revoked rs r)
@@ -113,24 +135,57 @@ calm-revoked rs r = by-cond (Calm r) (wanted rs r) (inState asked r) r (λ t. fr
   where
     from1 : r .state ≡ 1 → Calm r (inState asked r)
     from1 e = record {
-        handle-is = refl; client-is = refl; stripe-is = refl; number-is = refl; first-is = refl; last-is = refl;
-        waits-is = sym (false-is (waits r) (not-T (waits r) (λ w. let z = eqb→eq (r .state) 0 w in omega arith)));
-        writes-is = refl; state-hi = λ h. omega arith; mode-in = λ h. h; mode-mid = λ h. h; stays-pr = λ h. h; stays-nbw = λ h. omega arith }
+      handle-is = refl;
+      client-is = refl;
+      stripe-is = refl;
+      number-is = refl;
+      first-is = refl;
+      last-is = refl;
+      waits-is = sym (false-is (waits r) (not-T (waits r) (λ w. let z = eqb→eq (r .state) 0 w in omega arith)));
+      writes-is = refl;
+      state-hi = λ h. omega arith;
+      mode-in = λ h. h;
+      mode-mid = λ h. h;
+      stays-pr = λ h. h;
+      stays-nbw = λ h. omega arith;
+    }
 
 pub calm-acknowledged : (c h : ℕ) (r : Lock) → Calm r (cond (mayAcknowledge c h r) (inState canceling r) r)
 calm-acknowledged c h r = by-cond (Calm r) (mayAcknowledge c h r) (inState canceling r) r (λ t. from2 (eqb→eq (r .state) 2 (search (and-r)))) (λ t. calm-refl r)
   where
     from2 : r .state ≡ 2 → Calm r (inState canceling r)
     from2 e = record {
-        handle-is = refl; client-is = refl; stripe-is = refl; number-is = refl; first-is = refl; last-is = refl;
-        waits-is = sym (false-is (waits r) (not-T (waits r) (λ w. let z = eqb→eq (r .state) 0 w in omega arith)));
-        writes-is = refl; state-hi = λ h. omega arith; mode-in = λ h. h; mode-mid = λ h. h; stays-pr = λ h. h; stays-nbw = λ h. (h .0, refl) }
+      handle-is = refl;
+      client-is = refl;
+      stripe-is = refl;
+      number-is = refl;
+      first-is = refl;
+      last-is = refl;
+      waits-is = sym (false-is (waits r) (not-T (waits r) (λ w. let z = eqb→eq (r .state) 0 w in omega arith)));
+      writes-is = refl;
+      state-hi = λ h. omega arith;
+      mode-in = λ h. h;
+      mode-mid = λ h. h;
+      stays-pr = λ h. h;
+      stays-nbw = λ h. (h .0, refl);
+    }
 
 pub calm-downgraded : (c h : ℕ) (r : Lock) → Calm r (cond (mayDowngrade c h r) (downgraded r) r)
 calm-downgraded c h r = by-cond (Calm r) (mayDowngrade c h r) (downgraded r) r (λ t. from3 (leb→le 3 (r .mode) (search (and-l, and-r)))) (λ t. calm-refl r)
   where
     from3 : 3 ≤ r .mode → Calm r (downgraded r)
     from3 e = record {
-        handle-is = refl; client-is = refl; stripe-is = refl; number-is = refl; first-is = refl; last-is = refl;
-        waits-is = refl; writes-is = sym (true-is (writes r) (not-T (eqb (r .mode) 1) (λ w. let z = eqb→eq (r .mode) 1 w in omega arith)));
-        state-hi = λ h. h; mode-in = λ h. omega arith; mode-mid = λ h. omega arith; stays-pr = λ h. omega arith; stays-nbw = λ h. omega arith }
+      handle-is = refl;
+      client-is = refl;
+      stripe-is = refl;
+      number-is = refl;
+      first-is = refl;
+      last-is = refl;
+      waits-is = refl;
+      writes-is = sym (true-is (writes r) (not-T (eqb (r .mode) 1) (λ w. let z = eqb→eq (r .mode) 1 w in omega arith)));
+      state-hi = λ h. h;
+      mode-in = λ h. omega arith;
+      mode-mid = λ h. omega arith;
+      stays-pr = λ h. omega arith;
+      stays-nbw = λ h. omega arith;
+    }

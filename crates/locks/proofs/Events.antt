@@ -45,16 +45,16 @@ not-both : (w x : Lock) (l n issued : ℕ) (lasts : List ℕ) → Valid issued l
 not-both w x l n issued lasts v u c =
     not-T (presses (given w granted n l) x)
     (λ t.
-        let a : T (conflicts x (given w granted n l)) = search (and-r) in
-        go (passes (w .mode) (x .mode) (x .state) (v .mode-lo) (v .mode-hi) (u .mode-lo) (u .mode-hi)
-        (not-T (conflict (w .mode) (x .mode) (x .state))
-        (λ z.
-            let o : T (other x w) = search (and-l, and-r) in
-            let e : T (eqb (x .stripe) (w .stripe)) = search (and-l, and-r) in
-            let b : T (eqb (w .stripe) (x .stripe)) = eq→eqb (w .stripe) (x .stripe) (sym (eqb→eq (x .stripe) (w .stripe) e)) in
-            let q : T (other w x) = turned x w o in
-            T-not (against w l x) c (search (and-l, and-r, and-i) depth 7))))
-        (eqb→eq (x .state) 0 (search (and-l))) (search (and-r)))
+    let a : T (conflicts x (given w granted n l)) = search (and-r) in
+    go (passes (w .mode) (x .mode) (x .state) (v .mode-lo) (v .mode-hi) (u .mode-lo) (u .mode-hi)
+    (not-T (conflict (w .mode) (x .mode) (x .state))
+    (λ z.
+    let o : T (other x w) = search (and-l, and-r) in
+    let e : T (eqb (x .stripe) (w .stripe)) = search (and-l, and-r) in
+    let b : T (eqb (w .stripe) (x .stripe)) = eq→eqb (w .stripe) (x .stripe) (sym (eqb→eq (x .stripe) (w .stripe) e)) in
+    let q : T (other w x) = turned x w o in
+    T-not (against w l x) c (search (and-l, and-r, and-i) depth 7))))
+    (eqb→eq (x .state) 0 (search (and-l))) (search (and-r)))
   where
     go : Passes (w .mode) (x .mode) (x .state) → x .state ≡ 0 → T (conflict (x .mode) (w .mode) 1) → ⊥
     go (inl p) e h = pr-passes (subst₂ (λ (a b : ℕ). T (conflict a b 1)) (p .1) (p .0) h)
@@ -108,14 +108,16 @@ spare t S = walk Spared t on by S (record { grants = []; are = refl; among = sub
     on lasts before w after es S f P =
         let g : Lock = grant lasts (before ++ (w ∷ after)) w in
         record {
-            grants = P .grants ++ (g ∷ []);
-            are = ap (λ (l : List Event). l ++ (grantEvent g ∷ [])) (P .are) ∙ sym (map-append grantEvent (P .grants) (g ∷ []));
-            among = sub.with-last g (P .among);
-            calm =
-                rw append-snoc
-                (all-join (λ r. not (wanted (before ++ (g ∷ after)) r)) (P .grants) (g ∷ [])
-                (all-imp (λ r. not (wanted (before ++ (w ∷ after)) r)) (λ r. not (wanted (before ++ (g ∷ after)) r)) (less-wanted (t .issued) lasts before w after S g (grant-held (t .issued) lasts before w after S)) (P .grants) (P .calm))
-                (and-i (not (wanted (before ++ (g ∷ after)) g)) true (unwanted (t .issued) lasts before w after S f) tt)) }
+          grants = P .grants ++ (g ∷ []);
+          are = ap (λ (l : List Event). l ++ (grantEvent g ∷ [])) (P .are) ∙ sym (map-append grantEvent (P .grants) (g ∷ []));
+          among = sub.with-last g (P .among);
+          calm =
+              rw append-snoc
+              (all-join (λ r. not (wanted (before ++ (g ∷ after)) r)) (P .grants) (g ∷ [])
+              (all-imp (λ r. not (wanted (before ++ (w ∷ after)) r)) (λ r. not (wanted (before ++ (g ∷ after)) r)) (less-wanted (t .issued) lasts before w after S g (grant-held (t .issued) lasts before w after S)) (P .grants) (P .calm))
+              (and-i (not (wanted (before ++ (g ∷ after)) g)) true (unwanted (t .issued) lasts before w after S f) tt));
+        }
+
     by : OnWait (t .issued) Spared
     by lasts before w after es S f P = record { grants = P .grants; are = P .are; among = sub.skip-last w (P .among); calm = rw append-snoc (P .calm) }
 
@@ -159,30 +161,36 @@ pairs-imp f g h (r ∷ rs) t =
 once : (issued : ℕ) (s : Settled) → Walked issued Spared s → Once (s .events ++ revocations (s .table .locks))
 once issued s W =
     record {
-        grants = G;
-        revoked = map (inState asked) K;
-        are = are;
-        grants-rise = sub.sub-pairs (λ a b. ltb (handleOf a) (handleOf b)) (W .law .among) rise;
-        revoked-rise = pairs-map (λ a b. ltb (handleOf a) (handleOf b)) (λ a b. ltb (handleOf a) (handleOf b)) (inState asked) (λ a b t. t) K (pairs-keep (λ a b. ltb (handleOf a) (handleOf b)) (wanted rs) rs rise);
-        one-each =
-            subst (λ (l : List ℕ). T (distinct l)) (sym (ap handles are ∙ same-handles G (map (inState asked) K) ∙ handles-kept))
-            (pairs-map other (λ a b. not (eqb a b)) handleOf (λ a b t. t) (G ++ K) (sub.once (wanted rs) other turned (W .law .among) calm (pairs-imp agree other apart rs (W .sound .apart))));
-        at-most =
-            omega (arith, length-append (s .events) (revocations rs), length-map G grantEvent, ap length (W .law .are), length-map K (λ r. revocation (inState asked r)), sub.few (wanted rs) (W .law .among) calm, W .sound .fits);
+      grants = G;
+      revoked = map (inState asked) K;
+      are = are;
+      grants-rise = sub.sub-pairs (λ a b. ltb (handleOf a) (handleOf b)) (W .law .among) rise;
+      revoked-rise = pairs-map (λ a b. ltb (handleOf a) (handleOf b)) (λ a b. ltb (handleOf a) (handleOf b)) (inState asked) (λ a b t. t) K (pairs-keep (λ a b. ltb (handleOf a) (handleOf b)) (wanted rs) rs rise);
+      one-each =
+          subst (λ (l : List ℕ). T (distinct l)) (sym (ap handles are ∙ same-handles G (map (inState asked) K) ∙ handles-kept))
+          (pairs-map other (λ a b. not (eqb a b)) handleOf (λ a b t. t) (G ++ K) (sub.once (wanted rs) other turned (W .law .among) calm (pairs-imp agree other apart rs (W .sound .apart))));
+      at-most =
+          omega (arith, length-append (s .events) (revocations rs), length-map G grantEvent, ap length (W .law .are), length-map K (λ r. revocation (inState asked r)), sub.few (wanted rs) (W .law .among) calm, W .sound .fits);
     }
   where
     rs : List Lock
     rs = s .table .locks
+
     G : List Lock
     G = W .law .grants
+
     K : List Lock
     K = keep (wanted rs) rs
+
     rise : T (rising rs)
     rise = pairs-imp agree (λ a b. ltb (handleOf a) (handleOf b)) rises rs (W .sound .apart)
+
     calm : T (all (λ r. not (wanted rs r)) G)
     calm = rw append-nil at (W .law .calm)
+
     are : s .events ++ revocations rs ≡ map grantEvent G ++ map revocation (map (inState asked) K)
     are = ap₂ (λ (a b : List Event). a ++ b) (W .law .are) (sym (map-map revocation (inState asked) K))
+
     handles-kept : map handleOf (G ++ map (inState asked) K) ≡ map handleOf (G ++ K)
     handles-kept = map-append handleOf G (map (inState asked) K) ∙ ap (λ (l : List ℕ). map handleOf G ++ l) (map-map handleOf (inState asked) K) ∙ sym (map-append handleOf G K)
 

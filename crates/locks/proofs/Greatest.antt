@@ -34,10 +34,11 @@ unfolding grant
 greatest issued lasts before w after S t u =
     subst (λ (g : Lock). Greatest w rs (g .last)) (sym (cond-false (any (hurries w) rs) (given w canceling (nextNumber lasts w) (w .last)) (given w granted (nextNumber lasts w) (widest w eof rs)) u))
     (record {
-        reaches = at-least w eof rs (w-valid-here issued lasts before w after S t .ends) (quiet issued lasts before w after S t u);
-        within-eof = at-most w eof rs;
-        clear-of-all = nobody (against w (widest w eof rs)) rs (widened-clear issued lasts before w after S t u);
-        no-further = taken w eof rs })
+      reaches = at-least w eof rs (w-valid-here issued lasts before w after S t .ends) (quiet issued lasts before w after S t u);
+      within-eof = at-most w eof rs;
+      clear-of-all = nobody (against w (widest w eof rs)) rs (widened-clear issued lasts before w after S t u);
+      no-further = taken w eof rs;
+    })
   where
     rs : List Lock
     rs = before ++ (w ∷ after)
@@ -54,11 +55,15 @@ turn-greatest t S n h f u =
   where
     R : Sounds t (turns n t)
     R = turns-sound t S n (omega arith)
+
     rs : List Lock
     rs = turns n t .table .locks
+
     lasts : List ℕ
     lasts = turns n t .table .lasts
+
     w : Lock
     w = nth (turns n t .table) n
+
     e : rs ≡ take n rs ++ (w ∷ drop (suc n) rs)
     e = split-at rs n blank (subst (λ (k : ℕ). n < k) (sym (R .long)) h)

@@ -40,8 +40,18 @@ module _ (issued : ℕ) (lasts : List ℕ) (rs : List Lock) (c s m f l : ℕ) (S
       let v = valid→ issued lasts r t in
       →valid (issued + 1) lasts r
       (record {
-          handle-lo = v .handle-lo; handle-hi = omega arith; client-hi = v .client-hi; stripe-hi = v .stripe-hi; mode-lo = v .mode-lo; mode-hi = v .mode-hi;
-          state-hi = v .state-hi; ordered = v .ordered; ends = v .ends; number-of = v .number-of; number-no = v .number-no })
+        handle-lo = v .handle-lo;
+        handle-hi = omega arith;
+        client-hi = v .client-hi;
+        stripe-hi = v .stripe-hi;
+        mode-lo = v .mode-lo;
+        mode-hi = v .mode-hi;
+        state-hi = v .state-hi;
+        ordered = v .ordered;
+        ends = v .ends;
+        number-of = v .number-of;
+        number-no = v .number-no;
+      })
 
   older-agree : (r : Lock) → T (valid issued lasts r) → T (agree r new)
   unfolding agree
@@ -60,18 +70,29 @@ module _ (issued : ℕ) (lasts : List ℕ) (rs : List Lock) (c s m f l : ℕ) (S
 
   pub asked : c ≤ maxClient → s ≤ maxStripe → 1 ≤ m → m ≤ 4 → f ≤ l → l ≤ eof → issued < highest width → length rs < maxRecords → Sound (issued + 1) lasts (rs ++ (new ∷ []))
   asked c-hi s-hi m-lo m-hi fl l-hi i-hi n-hi = record {
-      few = omega arith;
-      sixteen = S .sixteen;
-      fits = omega (arith, length-append rs (new ∷ []));
-      each =
-          all-join (valid (issued + 1) lasts) rs (new ∷ []) (all-imp (valid issued lasts) (valid (issued + 1) lasts) older rs (S .each))
-          (and-i (valid (issued + 1) lasts new) true
-          (→valid (issued + 1) lasts new
-          (record {
-              handle-lo = omega arith; handle-hi = omega arith; client-hi = c-hi; stripe-hi = s-hi; mode-lo = m-lo; mode-hi = m-hi; state-hi = omega arith;
-              ordered = fl; ends = l-hi; number-of = λ h. absurd h; number-no = λ h. refl })) tt);
-      apart = pairs-put agree rs new [] (rw append-nil (S .apart)) (all-imp (valid issued lasts) (λ r. agree r new) older-agree rs (S .each)) tt;
-      rooms = all-imp (room issued lasts rs) (room (issued + 1) lasts (rs ++ (new ∷ []))) asked-room stripes (S .rooms) }
+    few = omega arith;
+    sixteen = S .sixteen;
+    fits = omega (arith, length-append rs (new ∷ []));
+    each =
+        all-join (valid (issued + 1) lasts) rs (new ∷ []) (all-imp (valid issued lasts) (valid (issued + 1) lasts) older rs (S .each))
+        (and-i (valid (issued + 1) lasts new) true
+        (→valid (issued + 1) lasts new
+        (record {
+          handle-lo = omega arith;
+          handle-hi = omega arith;
+          client-hi = c-hi;
+          stripe-hi = s-hi;
+          mode-lo = m-lo;
+          mode-hi = m-hi;
+          state-hi = omega arith;
+          ordered = fl;
+          ends = l-hi;
+          number-of = λ h. absurd h;
+          number-no = λ h. refl;
+        })) tt);
+    apart = pairs-put agree rs new [] (rw append-nil (S .apart)) (all-imp (valid issued lasts) (λ r. agree r new) older-agree rs (S .each)) tt;
+    rooms = all-imp (room issued lasts rs) (room (issued + 1) lasts (rs ++ (new ∷ []))) asked-room stripes (S .rooms);
+  }
 
 -- Some records are kept
 module _ (issued : ℕ) (lasts : List ℕ) (rs : List Lock) (q : Lock → Bool) (S : Sound issued lasts rs) where
@@ -83,12 +104,13 @@ module _ (issued : ℕ) (lasts : List ℕ) (rs : List Lock) (q : Lock → Bool) 
 
   pub kept : Sound issued lasts (keep q rs)
   kept = record {
-      few = S .few;
-      sixteen = S .sixteen;
-      fits = le-trans (length-keep q rs) (S .fits);
-      each = all-keep (valid issued lasts) q rs (S .each);
-      apart = pairs-keep agree q rs (S .apart);
-      rooms = all-imp (room issued lasts rs) (room issued lasts (keep q rs)) kept-room stripes (S .rooms) }
+    few = S .few;
+    sixteen = S .sixteen;
+    fits = le-trans (length-keep q rs) (S .fits);
+    each = all-keep (valid issued lasts) q rs (S .each);
+    apart = pairs-keep agree q rs (S .apart);
+    rooms = all-imp (room issued lasts rs) (room issued lasts (keep q rs)) kept-room stripes (S .rooms);
+  }
 
 abbrev Good : Table → Type 0
 Good t = Sound (t .issued) (t .lasts) (t .locks)

@@ -45,9 +45,9 @@ numbers-append s es fs = ap (map (λ e. numberOf (e .lock))) (keep-append (write
 joined : (s base : ℕ) (lasts lasts′ : List ℕ) (es fs : List Event) → (c : Counted s base lasts es) → Counted s (getD lasts s 0) lasts′ fs → Counted s base lasts′ (es ++ fs)
 joined s base lasts lasts′ es fs c d =
     record {
-        k = c .k + d .k;
-        are = numbers-append s es fs ∙ ap₂ (λ (x y : List ℕ). x ++ y) (c .are) (d .are ∙ ap (λ (a : ℕ). upFrom a (d .k)) (ap (λ (a : ℕ). a + 1) (c .last) ∙ (omega arith))) ∙ sym (upFrom-add (base + 1) (c .k) (d .k));
-        last = let p = c .last in let q = d .last in omega arith;
+      k = c .k + d .k;
+      are = numbers-append s es fs ∙ ap₂ (λ (x y : List ℕ). x ++ y) (c .are) (d .are ∙ ap (λ (a : ℕ). upFrom a (d .k)) (ap (λ (a : ℕ). a + 1) (c .last) ∙ (omega arith))) ∙ sym (upFrom-add (base + 1) (c .k) (d .k));
+      last = let p = c .last in let q = d .last in omega arith;
     }
 
 nothing : (s : ℕ) (lasts : List ℕ) → Counted s (getD lasts s 0) lasts []
@@ -60,10 +60,13 @@ one s lasts w state l h = record { k = cond own 1 0; are = row own number; last 
   where
     own : Bool
     own = writes w && eqb (w .stripe) s
+
     e : Event
     e = grantEvent (given w state (nextNumber lasts w) l)
+
     number : T own → nextNumber lasts w ≡ getD lasts s 0 + 1
     number t = next-is lasts w (and-l (writes w) (eqb (w .stripe) s) t) ∙ ap (λ (i : ℕ). getD lasts i 0 + 1) (eqb→eq (w .stripe) s (and-r (writes w) (eqb (w .stripe) s) t))
+
     row : (b : Bool) → (T b → nextNumber lasts w ≡ getD lasts s 0 + 1) → map (λ e. numberOf (e .lock)) (cond b (e ∷ []) []) ≡ upFrom (getD lasts s 0 + 1) (cond b 1 0)
     row true f = ap (λ (n : ℕ). n ∷ []) (f tt)
     row false f = refl
@@ -85,15 +88,16 @@ settle-counted t s S =
     let c = walk (λ lasts before rest es. Counted s (lastOf t s) lasts es) t on by S (nothing s (t .lasts)) .law in
     let rs : List Lock = turns (length (t .locks)) t .table .locks in
     record {
-        k = c .k;
-        are = numbers-append s (turns (length (t .locks)) t .events) (revocations rs) ∙ ap₂ (λ (x y : List ℕ). x ++ y) (c .are) (no-number s (keep (wanted rs) rs)) ∙ append-nil (upFrom (lastOf t s + 1) (c .k));
-        last = c .last;
+      k = c .k;
+      are = numbers-append s (turns (length (t .locks)) t .events) (revocations rs) ∙ ap₂ (λ (x y : List ℕ). x ++ y) (c .are) (no-number s (keep (wanted rs) rs)) ∙ append-nil (upFrom (lastOf t s + 1) (c .k));
+      last = c .last;
     }
   where
     on : OnGrant (t .issued) (λ lasts before rest es. Counted s (lastOf t s) lasts es)
     on lasts before w rest es S f c =
         joined s (lastOf t s) lasts (lastsAfter lasts w) es (grantEvent (grant lasts (before ++ (w ∷ rest)) w) ∷ []) c
         (granted-one s lasts (before ++ (w ∷ rest)) w (let h = w-valid-here (t .issued) lasts before w rest S f .stripe-hi in let n = S .sixteen in omega arith))
+
     by : OnWait (t .issued) (λ lasts before rest es. Counted s (lastOf t s) lasts es)
     by lasts before w rest es S f c = c
 
@@ -109,8 +113,8 @@ unfolding serve
 serve-counted t m s q =
     by-cond (λ (o : Outcome). Counted s (lastOf t s) (o .table .lasts) (o .events)) (eqb (refusal t m) 0) (accepted (answered t m) (settle (change t m))) (refused t (refusal t m))
     (λ e.
-        let u : Table = change t m in
-        subst (λ (l : List ℕ). Counted s (getD l s 0) (settle u .table .lasts) (settle u .events)) (same-lasts t m) (settle-counted u s (change-sound t m e (sound→ t q))))
+    let u : Table = change t m in
+    subst (λ (l : List ℕ). Counted s (getD l s 0) (settle u .table .lasts) (settle u .events)) (same-lasts t m) (settle-counted u s (change-sound t m e (sound→ t q))))
     (λ e. nothing s (t .lasts))
 
 pub session-counted : (t : Table) (ms : List Message) (s : ℕ) → T (sound t) → Counted s (lastOf t s) (after t ms .lasts) (events t ms)

@@ -38,10 +38,18 @@ not-equal a b (inr h) = not-T (eqb a b) (λ e. let q = eqb→eq a b e in omega a
 -- A record that stays
 stays : (issued : ℕ) (lasts : List ℕ) (w r : Lock) → w .stripe < length lasts → Valid issued lasts r → Valid issued (lastsAfter lasts w) r
 stays issued lasts w r i v = record {
-    handle-lo = v .handle-lo; handle-hi = v .handle-hi; client-hi = v .client-hi; stripe-hi = v .stripe-hi; mode-lo = v .mode-lo; mode-hi = v .mode-hi;
-    state-hi = v .state-hi; ordered = v .ordered; ends = v .ends;
-    number-of = λ h. (v .number-of h .0, let e = lasts-at lasts w i (r .stripe) in let n = v .number-of h in omega arith);
-    number-no = v .number-no }
+  handle-lo = v .handle-lo;
+  handle-hi = v .handle-hi;
+  client-hi = v .client-hi;
+  stripe-hi = v .stripe-hi;
+  mode-lo = v .mode-lo;
+  mode-hi = v .mode-hi;
+  state-hi = v .state-hi;
+  ordered = v .ordered;
+  ends = v .ends;
+  number-of = λ h. (v .number-of h .0, let e = lasts-at lasts w i (r .stripe) in let n = v .number-of h in omega arith);
+  number-no = v .number-no;
+}
 
 module _ (issued : ℕ) (lasts : List ℕ) (w : Lock) (s l : ℕ) where
   abbrev made : Lock
@@ -49,26 +57,35 @@ module _ (issued : ℕ) (lasts : List ℕ) (w : Lock) (s l : ℕ) where
 
   made-valid : w .stripe < length lasts → Valid issued lasts w → 1 ≤ s → s ≤ 3 → w .first ≤ l → l ≤ eof → Valid issued (lastsAfter lasts w) made
   made-valid e v h k i j = record {
-      handle-lo = v .handle-lo; handle-hi = v .handle-hi; client-hi = v .client-hi; stripe-hi = v .stripe-hi; mode-lo = v .mode-lo; mode-hi = v .mode-hi;
-      state-hi = k; ordered = i; ends = j;
-      number-of = λ t.
-          let u : T (writes w) = search (and-r) in
-          let n = next-is lasts w u in
-          let m = lasts-own lasts w e u in
-          (omega arith, omega arith);
-      number-no = λ t.
-          by-cond (λ (n : ℕ). n ≡ 0) (writes w) (getD lasts (w .stripe) 0 + 1) 0
-          (λ u. absurd (T-not (held made && writes made) t (and-i (held made) (writes made) (is-held s h) u))) (λ u. refl) }
+    handle-lo = v .handle-lo;
+    handle-hi = v .handle-hi;
+    client-hi = v .client-hi;
+    stripe-hi = v .stripe-hi;
+    mode-lo = v .mode-lo;
+    mode-hi = v .mode-hi;
+    state-hi = k;
+    ordered = i;
+    ends = j;
+    number-of = λ t.
+        let u : T (writes w) = search (and-r) in
+        let n = next-is lasts w u in
+        let m = lasts-own lasts w e u in
+        (omega arith, omega arith);
+    number-no = λ t.
+        by-cond (λ (n : ℕ). n ≡ 0) (writes w) (getD lasts (w .stripe) 0 + 1) 0
+        (λ u. absurd (T-not (held made && writes made) t (and-i (held made) (writes made) (is-held s h) u))) (λ u. refl);
+  }
 
   made-friends : (r : Lock) → T (other w r) → Valid issued lasts w → Valid issued lasts r → (T (held r) → T (not (against w l r))) → Friends made r
   made-friends r o v u c = record {
-      differ = λ h k e p q d.
-          let n = next-is lasts w p in
-          let m = u .number-of (and-i (held r) (writes r) k q) in
-          let z : getD lasts (w .stripe) 0 ≡ getD lasts (r .stripe) 0 = ap (λ (i : ℕ). getD lasts i 0) e in
-          omega arith;
-      clear = λ h k e p q. cases k e (passes (w .mode) (r .mode) (r .state) (v .mode-lo) (v .mode-hi) (u .mode-lo) (u .mode-hi)
-          (not-T (conflict (w .mode) (r .mode) (r .state)) (λ z. T-not (against w l r) (c k) (search (and-i, eq→eqb, le→leb))))) }
+    differ = λ h k e p q d.
+        let n = next-is lasts w p in
+        let m = u .number-of (and-i (held r) (writes r) k q) in
+        let z : getD lasts (w .stripe) 0 ≡ getD lasts (r .stripe) 0 = ap (λ (i : ℕ). getD lasts i 0) e in
+        omega arith;
+    clear = λ h k e p q. cases k e (passes (w .mode) (r .mode) (r .state) (v .mode-lo) (v .mode-hi) (u .mode-lo) (u .mode-hi)
+        (not-T (conflict (w .mode) (r .mode) (r .state)) (λ z. T-not (against w l r) (c k) (search (and-i, eq→eqb, le→leb)))));
+  }
     where
       cases : T (held r) → w .stripe ≡ r .stripe → Passes (w .mode) (r .mode) (r .state) → Clear made r
       cases k e (inl t) = inl t
@@ -125,25 +142,32 @@ module _ (issued : ℕ) (lasts : List ℕ) (before : List Lock) (w : Lock) (afte
   room-kept i t =
       let h : getD lasts i 0 + count (wants i) (before ++ (w ∷ after)) ≤ issued = leb→le (getD lasts i 0 + count (wants i) (before ++ (w ∷ after))) issued t in
       le→leb (getD (lastsAfter lasts w) i 0 + count (wants i) (before ++ (new ∷ after))) issued
-      (omega (arith, count-put (wants i) before w after, count-put (wants i) before new after, lasts-at lasts w inside i,
-      one (waits w) (writes w) (eqb (w .stripe) i) wt, none-of (waits new) (writes new) (eqb (new .stripe) i) (is-held s s-lo)))
+      (omega (
+        arith,
+        count-put (wants i) before w after,
+        count-put (wants i) before new after,
+        lasts-at lasts w inside i,
+        one (waits w) (writes w) (eqb (w .stripe) i) wt,
+        none-of (waits new) (writes new) (eqb (new .stripe) i) (is-held s s-lo),
+      ))
 
   pub placed : Sound issued (lastsAfter lasts w) (before ++ (new ∷ after))
   placed = record {
-      few = S .few;
-      sixteen = lasts-length lasts w ∙ S .sixteen;
-      fits = let a = length-put before w after in let b = length-put before new after in let c = S .fits in omega arith;
-      each =
-          all-put (valid issued (lastsAfter lasts w)) before new after
-          (→valid issued (lastsAfter lasts w) new (made-valid issued lasts w s l inside w-valid s-lo s-hi l-lo l-hi))
-          (all-imp (valid issued lasts) (valid issued (lastsAfter lasts w)) (λ r t. →valid issued (lastsAfter lasts w) r (stays issued lasts w r inside (valid→ issued lasts r t))) (before ++ after) others);
-      apart =
-          pairs-put agree before new after (pairs-out agree before w after (S .apart))
-          (all-imp2 (λ r. agree r w) (λ r. valid issued lasts r && Free w l r) (λ r. agree r new) agree-left before
-          (pairs-before agree before w after (S .apart)) (all-left (λ r. valid issued lasts r && Free w l r) before after both))
-          (all-imp2 (agree w) (λ r. valid issued lasts r && Free w l r) (agree new) agree-right after
-          (pairs-after agree before w after (S .apart)) (all-right (λ r. valid issued lasts r && Free w l r) before after both));
-      rooms = all-imp (room issued lasts (before ++ (w ∷ after))) (room issued (lastsAfter lasts w) (before ++ (new ∷ after))) room-kept stripes (S .rooms) }
+    few = S .few;
+    sixteen = lasts-length lasts w ∙ S .sixteen;
+    fits = let a = length-put before w after in let b = length-put before new after in let c = S .fits in omega arith;
+    each =
+        all-put (valid issued (lastsAfter lasts w)) before new after
+        (→valid issued (lastsAfter lasts w) new (made-valid issued lasts w s l inside w-valid s-lo s-hi l-lo l-hi))
+        (all-imp (valid issued lasts) (valid issued (lastsAfter lasts w)) (λ r t. →valid issued (lastsAfter lasts w) r (stays issued lasts w r inside (valid→ issued lasts r t))) (before ++ after) others);
+    apart =
+        pairs-put agree before new after (pairs-out agree before w after (S .apart))
+        (all-imp2 (λ r. agree r w) (λ r. valid issued lasts r && Free w l r) (λ r. agree r new) agree-left before
+        (pairs-before agree before w after (S .apart)) (all-left (λ r. valid issued lasts r && Free w l r) before after both))
+        (all-imp2 (agree w) (λ r. valid issued lasts r && Free w l r) (agree new) agree-right after
+        (pairs-after agree before w after (S .apart)) (all-right (λ r. valid issued lasts r && Free w l r) before after both));
+    rooms = all-imp (room issued lasts (before ++ (w ∷ after))) (room issued (lastsAfter lasts w) (before ++ (new ∷ after))) room-kept stripes (S .rooms);
+  }
     where
       both : T (all (λ r. valid issued lasts r && Free w l r) (before ++ after))
       both = all-both (valid issued lasts) (Free w l) (before ++ after) others free

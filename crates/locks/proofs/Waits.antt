@@ -48,6 +48,7 @@ no-obstacle r w h t =
         let a = ltb→lt (handleOf w) (handleOf r) k in
         let b = ltb→lt (handleOf r) (handleOf w) (and-l (ltb (handleOf r) (handleOf w)) (differ r w && share r w) t) in
         omega arith
+
     go : (c : Bool) → T c → (d : Bool) → (T d → ⊥) → T (not c || d) → ⊥
     go true h d f u = f u
     go false h d f u = absurd h
@@ -68,10 +69,12 @@ turns-stuck t S = walk Stuck t on by S tt
       where
         g : Lock
         g = grant lasts (before ++ (w ∷ after)) w
+
         keeps : (r : Lock) → T (agree r w) → T (stuck (before ++ (w ∷ after)) r) → T (stuck (before ++ (g ∷ after)) r)
         keeps r a b =
             imp-i (waits r) (any (obstacle r) (before ++ (g ∷ after)))
             (λ h. any-but (obstacle r) before w g after (no-obstacle r w (and-l (waits w) (not (any (obstacle w) (before ++ (w ∷ after)))) f) a) (imp-e (waits r) (any (obstacle r) (before ++ (w ∷ after))) b h))
+
     by : OnWait (t .issued) Stuck
     by lasts before w after es S f M =
         rw append-snoc (all-join (stuck (before ++ (w ∷ after))) before (w ∷ []) M (and-i (stuck (before ++ (w ∷ after)) w) true (not-free (before ++ (w ∷ after)) w f) tt))

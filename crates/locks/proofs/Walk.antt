@@ -49,46 +49,57 @@ module _ (issued size : ℕ) (P : Law) (on : OnGrant issued P) (by : OnWait issu
   step n s h R =
       by-cond (Reached issued size P (suc n)) (free rs w) (granting n s w (grant lasts rs w)) s
       (λ t.
-          let u : T (free L w) = subst (λ (l : List Lock). T (free l w)) e t in
-          record {
-              count = R .count;
-              long = length-set rs n (grant lasts rs w) ∙ R .long;
-              sound =
-                  subst (λ (l : List Lock). Sound issued (lastsAfter lasts w) l) (sym (set-split rs n (grant lasts rs w) k))
-                  (subst (λ (l : List Lock). Sound issued (lastsAfter lasts w) (take n rs ++ (grant lasts l w ∷ drop (suc n) rs))) (sym e)
-                  (grant-sound issued lasts (take n rs) w (drop (suc n) rs) S u));
-              law =
-                  subst (λ (l : List Lock). P (lastsAfter lasts w) l (drop (suc n) (set-to rs)) (es ++ (grantEvent (grant lasts rs w) ∷ []))) (sym (take-suc-set rs n (grant lasts rs w) k))
-                  (subst (λ (l : List Lock). P (lastsAfter lasts w) (take n rs ++ (grant lasts rs w ∷ [])) l (es ++ (grantEvent (grant lasts rs w) ∷ []))) (sym (drop-set-lt (suc n) rs n (grant lasts rs w) (omega arith)))
-                  (subst (λ (l : List Lock). P (lastsAfter lasts w) (take n rs ++ (grant lasts l w ∷ [])) (drop (suc n) rs) (es ++ (grantEvent (grant lasts l w) ∷ []))) (sym e)
-                  (on lasts (take n rs) w (drop (suc n) rs) es S u p))) })
+      let u : T (free L w) = subst (λ (l : List Lock). T (free l w)) e t in
+      record {
+        count = R .count;
+        long = length-set rs n (grant lasts rs w) ∙ R .long;
+        sound =
+            subst (λ (l : List Lock). Sound issued (lastsAfter lasts w) l) (sym (set-split rs n (grant lasts rs w) k))
+            (subst (λ (l : List Lock). Sound issued (lastsAfter lasts w) (take n rs ++ (grant lasts l w ∷ drop (suc n) rs))) (sym e)
+            (grant-sound issued lasts (take n rs) w (drop (suc n) rs) S u));
+        law =
+            subst (λ (l : List Lock). P (lastsAfter lasts w) l (drop (suc n) (set-to rs)) (es ++ (grantEvent (grant lasts rs w) ∷ []))) (sym (take-suc-set rs n (grant lasts rs w) k))
+            (subst (λ (l : List Lock). P (lastsAfter lasts w) (take n rs ++ (grant lasts rs w ∷ [])) l (es ++ (grantEvent (grant lasts rs w) ∷ []))) (sym (drop-set-lt (suc n) rs n (grant lasts rs w) (omega arith)))
+            (subst (λ (l : List Lock). P (lastsAfter lasts w) (take n rs ++ (grant lasts l w ∷ [])) (drop (suc n) rs) (es ++ (grantEvent (grant lasts l w) ∷ []))) (sym e)
+            (on lasts (take n rs) w (drop (suc n) rs) es S u p)));
+      })
       (λ t.
-          record {
-              count = R .count;
-              long = R .long;
-              sound = R .sound;
-              law =
-                  subst (λ (l : List Lock). P lasts l (drop (suc n) rs) es) (sym (take-suc rs n blank k))
-                  (by lasts (take n rs) w (drop (suc n) rs) es S (subst (λ (l : List Lock). T (not (free l w))) e t) p) })
+      record {
+        count = R .count;
+        long = R .long;
+        sound = R .sound;
+        law =
+            subst (λ (l : List Lock). P lasts l (drop (suc n) rs) es) (sym (take-suc rs n blank k))
+            (by lasts (take n rs) w (drop (suc n) rs) es S (subst (λ (l : List Lock). T (not (free l w))) e t) p);
+      })
     where
       rs : List Lock
       rs = s .table .locks
+
       lasts : List ℕ
       lasts = s .table .lasts
+
       es : List Event
       es = s .events
+
       w : Lock
       w = nth (s .table) n
+
       L : List Lock
       L = take n rs ++ (w ∷ drop (suc n) rs)
+
       set-to : List Lock → List Lock
       set-to l = granting n s w (grant lasts l w) .table .locks
+
       k : n < length rs
       k = subst (λ (m : ℕ). n < m) (sym (R .long)) h
+
       e : rs ≡ L
       e = split-at rs n blank k
+
       S : Sound issued lasts L
       S = subst (λ (l : List Lock). Sound issued lasts l) e (R .sound)
+
       p : P lasts (take n rs) (w ∷ drop (suc n) rs) es
       p = subst (λ (l : List Lock). P lasts (take n rs) l es) (drop-cons rs n blank k) (R .law)
 
@@ -110,15 +121,17 @@ walk P t on by S p = end (turns N t) (steps (t .issued) N P on by t (record { co
   where
     N : ℕ
     N = length (t .locks)
+
     end : (s : Settled) → Reached (t .issued) N P N s → Walked (t .issued) P s
     end s R =
         let rs : List Lock = s .table .locks in
         record {
-            count = R .count;
-            sound = R .sound;
-            law =
-                subst (λ (l : List Lock). P (s .table .lasts) l [] (s .events)) (ap (λ (m : ℕ). take m rs) (sym (R .long)) ∙ take-length rs)
-                (subst (λ (l : List Lock). P (s .table .lasts) (take N rs) l (s .events)) (ap (λ (m : ℕ). drop m rs) (sym (R .long)) ∙ drop-length rs) (R .law)) }
+          count = R .count;
+          sound = R .sound;
+          law =
+              subst (λ (l : List Lock). P (s .table .lasts) l [] (s .events)) (ap (λ (m : ℕ). take m rs) (sym (R .long)) ∙ take-length rs)
+              (subst (λ (l : List Lock). P (s .table .lasts) (take N rs) l (s .events)) (ap (λ (m : ℕ). drop m rs) (sym (R .long)) ∙ drop-length rs) (R .law));
+        }
 
 -- after n turns the table is sound, with as many records, and as many handles issued
 pub record Sounds (t : Table) (s : Settled) : Type 0 where

@@ -14,7 +14,7 @@ use Rattle.locks.specs.Serve.{Outcome, serve, change, answered}
 use Rattle.locks.specs.Events.{eventFields}
 use Rattle.runs.specs.declared.Run.{Run}
 use Rattle.runs.specs.Owner.{run, over, owner}
-use Rattle.runs.specs.Map.{raise, mapOf, put, paint}
+use Rattle.runs.specs.Map.{mapOf, end, draw, put, join}
 use Rattle.runs.specs.Sound.{soundMap, soundLog, sane, apart}
 use Rattle.stripe.specs.Refusals.{behind}
 use Rattle.stripe.specs.Stripe as s
@@ -167,5 +167,5 @@ examples =
     ∷ []
 
 pub examples-hold : map computed examples ≡ examples
-unfolding examples serve rules change answered settle turns turn grant widest conflict note write stored behind soundMap soundLog sane apart mapOf raise paint put owner over
+unfolding examples serve rules change answered settle turns turn grant widest conflict note write stored behind soundMap soundLog sane apart mapOf end draw put join owner over
 examples-hold = refl

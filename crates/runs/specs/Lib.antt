@@ -1,3 +1,4 @@
 pub mod Owner
 pub mod Map
 pub mod Sound
+pub mod Bytes

@@ -1,6 +1,6 @@
 -- What a list of runs says of each byte.
 use Prim.Native.Nat.{ℕ, max}
-use mathlib.Core.Bool.{Bool, cond}
+use mathlib.Core.Bool.{cond}
 use mathlib.Core.List.{List, [], _∷_}
 use Rattle.common.specs.Ranges.{within}
 use Rattle.common.specs.Counters.{number}

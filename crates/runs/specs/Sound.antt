@@ -1,13 +1,14 @@
 -- Sound maps and logs, as runs. (Their bytes: Bytes.antt.)
-use Prim.Native.Nat.{ℕ, _+_}
+use Prim.Native.Nat.{ℕ}
 use mathlib.Core.Bool.{Bool, true, not, _&&_}
 use mathlib.Core.List.{List, [], _∷_}
-use lib.Dec.{ltb, leb, eqb}
+use lib.Dec.{ltb, leb}
 use lib.ListN.{length}
 use Rattle.common.specs.Ranges.{range}
 use Rattle.common.specs.Tests.{all}
 use Rattle.runs.specs.declared.Run.{Run}
 use Rattle.runs.specs.Owner.{ageOf}
+use Rattle.runs.specs.Map.{joins}
 
 -- "the array of at most 1,024 runs"; "the array of at most 2,048 entries"
 abbrev pub maxRuns : ℕ
@@ -29,7 +30,7 @@ allValid = all valid
 
 -- "rising, without common bytes; touching runs have different numbers": what a run asks of the next
 abbrev pub leads : Run → Run → Bool
-leads r t = ltb (r .last) (t .first) && not (eqb (r .last + 1) (t .first) && eqb (ageOf r) (ageOf t))
+leads r t = ltb (r .last) (t .first) && not (joins r t)
 
 unfoldable pub apart : List Run → Bool
 apart [] = true

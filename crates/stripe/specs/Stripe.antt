@@ -1,6 +1,6 @@
 -- Note, write and restart: document 01, "Note, write, restart".
 use Prim.Native.Nat.{ℕ, suc}
-use mathlib.Core.Bool.{Bool, true, cond}
+use mathlib.Core.Bool.{true, cond}
 use mathlib.Core.List.{List, [], _∷_, _++_}
 use lib.Dec.{eqb}
 use lib.ListN.{length, take, drop}
@@ -46,13 +46,17 @@ abbrev pub written : List Run → ℕ → List ℕ → ℕ → List ℕ → List
 written map first piece number image = take first image ++ stored map number first piece (drop first image)
 
 -- "It changes no map byte"
+abbrev pub wrote : Stripe → ℕ → List ℕ → ℕ → Stripe
+wrote s first piece number = record { map = s .map; log = s .log; image = written (s .map) first piece number (s .image) }
+
 unfoldable pub write : Stripe → ℕ → List ℕ → ℕ → Outcome
 write s first piece number =
     answer (firstHit (writeRules (soundMap (s .map)) (s .map) first (length piece) number (length (s .image)))) s
-    (record { map = s .map; log = s .log; image = written (s .map) first piece number (s .image) })
+    (wrote s first piece number)
 
 -- "Restart fills the map buffer with the log's map"
+abbrev pub restarted : Stripe → Stripe
+restarted s = record { map = mapOf (s .log); log = s .log; image = s .image }
+
 unfoldable pub restart : Stripe → Outcome
-restart s =
-    answer (firstHit (restartRules true (soundLog (s .log)) (s .log))) s
-    (record { map = mapOf (s .log); log = s .log; image = s .image })
+restart s = answer (firstHit (restartRules true (soundLog (s .log)) (s .log))) s (restarted s)

@@ -32,28 +32,29 @@ pub record Valid (issued : ℕ) (lasts : List ℕ) (r : Lock) : Type 0 where
 pub valid→ : (issued : ℕ) (lasts : List ℕ) (r : Lock) → T (valid issued lasts r) → Valid issued lasts r
 unfolding valid
 valid→ issued lasts r t = record {
-    handle-lo = search (and-l, and-r, leb→le) depth 12;
-    handle-hi = search (and-l, and-r, leb→le) depth 12;
-    client-hi = search (and-l, and-r, leb→le) depth 12;
-    stripe-hi = search (and-l, and-r, leb→le) depth 12;
-    mode-lo = search (and-l, and-r, leb→le) depth 12;
-    mode-hi = search (and-l, and-r, leb→le) depth 12;
-    state-hi = search (and-l, and-r, leb→le) depth 12;
-    ordered = search (and-l, and-r, leb→le) depth 12;
-    ends = search (and-l, and-r, leb→le) depth 12;
-    number-of = λ h.
-        let u : T (within 1 (numberOf r) (getD lasts (r .stripe) 0)) =
-            choice-l (held r && writes r) (within 1 (numberOf r) (getD lasts (r .stripe) 0)) (eqb (numberOf r) 0) (search (and-r)) h in
-        (search (and-l, leb→le), search (and-r, leb→le));
-    number-no = λ h.
-        eqb→eq (numberOf r) 0 (choice-r (held r && writes r) (within 1 (numberOf r) (getD lasts (r .stripe) 0)) (eqb (numberOf r) 0) (search (and-r)) h) }
+  handle-lo = search (and-l, and-r, leb→le) depth 12;
+  handle-hi = search (and-l, and-r, leb→le) depth 12;
+  client-hi = search (and-l, and-r, leb→le) depth 12;
+  stripe-hi = search (and-l, and-r, leb→le) depth 12;
+  mode-lo = search (and-l, and-r, leb→le) depth 12;
+  mode-hi = search (and-l, and-r, leb→le) depth 12;
+  state-hi = search (and-l, and-r, leb→le) depth 12;
+  ordered = search (and-l, and-r, leb→le) depth 12;
+  ends = search (and-l, and-r, leb→le) depth 12;
+  number-of = λ h.
+      let u : T (within 1 (numberOf r) (getD lasts (r .stripe) 0)) =
+      choice-l (held r && writes r) (within 1 (numberOf r) (getD lasts (r .stripe) 0)) (eqb (numberOf r) 0) (search (and-r)) h in
+      (search (and-l, leb→le), search (and-r, leb→le));
+  number-no = λ h.
+      eqb→eq (numberOf r) 0 (choice-r (held r && writes r) (within 1 (numberOf r) (getD lasts (r .stripe) 0)) (eqb (numberOf r) 0) (search (and-r)) h);
+}
 
 pub →valid : (issued : ℕ) (lasts : List ℕ) (r : Lock) → Valid issued lasts r → T (valid issued lasts r)
 unfolding valid
 →valid issued lasts r v =
     let u : T (cond (held r && writes r) (within 1 (numberOf r) (getD lasts (r .stripe) 0)) (eqb (numberOf r) 0)) =
-        choice-i (held r && writes r) (within 1 (numberOf r) (getD lasts (r .stripe) 0)) (eqb (numberOf r) 0)
-        (λ h. let n = v .number-of h in search (and-i, le→leb)) (λ h. eq→eqb (numberOf r) 0 (v .number-no h)) in
+    choice-i (held r && writes r) (within 1 (numberOf r) (getD lasts (r .stripe) 0)) (eqb (numberOf r) 0)
+    (λ h. let n = v .number-of h in search (and-i, le→leb)) (λ h. eq→eqb (numberOf r) 0 (v .number-no h)) in
     search (and-i, le→leb) depth 12
 
 -- Two records
@@ -73,11 +74,12 @@ pub record Friends (a b : Lock) : Type 0 where
 
 yields→ : (a b : Lock) → T (yields a b) → Yields a b
 yields→ a b t = record {
-    less = search (and-l, and-r, ltb→lt);
-    nbw = search (and-l, and-r, eqb→eq);
-    canceling = search (and-l, and-r, eqb→eq);
-    lo = search (and-l, and-r, leb→le);
-    hi = search (and-l, and-r, leb→le) }
+  less = search (and-l, and-r, ltb→lt);
+  nbw = search (and-l, and-r, eqb→eq);
+  canceling = search (and-l, and-r, eqb→eq);
+  lo = search (and-l, and-r, leb→le);
+  hi = search (and-l, and-r, leb→le);
+}
 
 →yields : (a b : Lock) → Yields a b → T (yields a b)
 →yields a b y = search (and-i, eq→eqb, le→leb, lt→ltb) depth 8
@@ -91,7 +93,7 @@ clear a b = (eqb (a .mode) 1 && eqb (b .mode) 1) || (yields a b || yields b a)
 clear→ : (a b : Lock) → T (clear a b) → Clear a b
 clear→ a b t =
     ⊎-elim
-    (λ (u : T (eqb (a .mode) 1 && eqb (b .mode) 1)). inl (search (and-l, and-r, eqb→eq), search (and-l, and-r, eqb→eq)))
+    (λ (u : T (eqb (a .mode) 1 && eqb (b .mode) 1)). inl (search (and-l, and-r, eqb→eq)))
     (λ (u : T (yields a b || yields b a)). inr (⊎-elim (λ y. inl (yields→ a b y)) (λ y. inr (yields→ b a y)) (or-e (yields a b) (yields b a) u)))
     (or-e (eqb (a .mode) 1 && eqb (b .mode) 1) (yields a b || yields b a) t)
 
@@ -102,13 +104,14 @@ clear→ a b t =
 
 pub friends→ : (a b : Lock) → T (differ a b && share a b) → Friends a b
 friends→ a b t = record {
-    differ = λ h k e u v q.
-        T-not (eqb (numberOf a) (numberOf b))
-        (imp-e (together a b && (writes a && writes b)) (apart a b) (search (and-l)) (search (and-i, eq→eqb)))
-        (eq→eqb (numberOf a) (numberOf b) q);
-    clear = λ h k e p q.
-        clear→ a b
-        (imp-e (together a b && overlap (a .first) (a .last) (b .first) (b .last)) (clear a b) (search (and-r)) (search (and-i, eq→eqb, le→leb))) }
+  differ = λ h k e u v q.
+      T-not (eqb (numberOf a) (numberOf b))
+      (imp-e (together a b && (writes a && writes b)) (apart a b) (search (and-l)) (search (and-i, eq→eqb)))
+      (eq→eqb (numberOf a) (numberOf b) q);
+  clear = λ h k e p q.
+      clear→ a b
+      (imp-e (together a b && overlap (a .first) (a .last) (b .first) (b .last)) (clear a b) (search (and-r)) (search (and-i, eq→eqb, le→leb)));
+}
 
 pub →friends : (a b : Lock) → Friends a b → T (differ a b && share a b)
 →friends a b f =
@@ -122,8 +125,9 @@ pub →friends : (a b : Lock) → Friends a b → T (differ a b && share a b)
 
 pub friends-sym : (a b : Lock) → Friends a b → Friends b a
 friends-sym a b f = record {
-    differ = λ h k e u v q. f .differ k h (sym e) v u (sym q);
-    clear = λ h k e p q. turned (f .clear k h (sym e) q p) }
+  differ = λ h k e u v q. f .differ k h (sym e) v u (sym q);
+  clear = λ h k e p q. turned (f .clear k h (sym e) q p);
+}
   where
     turned : Clear a b → Clear b a
     turned (inl p) = inl (p .1, p .0)
@@ -142,12 +146,13 @@ pub record Sound (issued : ℕ) (lasts : List ℕ) (rs : List Lock) : Type 0 whe
 pub sound→ : (t : Table) → T (sound t) → Sound (t .issued) (t .lasts) (t .locks)
 unfolding sound
 sound→ t s = record {
-    few = search (and-l, and-r, leb→le) depth 8;
-    sixteen = search (and-l, and-r, eqb→eq) depth 8;
-    fits = search (and-l, and-r, leb→le) depth 8;
-    each = search (and-l, and-r) depth 8;
-    apart = search (and-l, and-r) depth 8;
-    rooms = search (and-l, and-r) depth 8 }
+  few = search (and-l, and-r, leb→le) depth 8;
+  sixteen = search (and-l, and-r, eqb→eq) depth 8;
+  fits = search (and-l, and-r, leb→le) depth 8;
+  each = search (and-l, and-r) depth 8;
+  apart = search (and-l, and-r) depth 8;
+  rooms = search (and-l, and-r) depth 8;
+}
 
 pub →sound : (t : Table) → Sound (t .issued) (t .lasts) (t .locks) → T (sound t)
 unfolding sound

@@ -1,11 +1,12 @@
 -- The table's bytes: the layouts, over the counter's width w, and the table that bytes say.
 use Prim.Native.Nat.{ℕ, _+_}
+use mathlib.Core.Path.{_≡_, refl}
 use mathlib.Core.Bool.{Bool, _&&_}
 use mathlib.Core.List.{List, [], _∷_, map}
 use lib.Dec.{eqb}
 use lib.ListN.{length, getD, drop, replicate}
 use Rattle.common.specs.Counters.{handle, number, width}
-use Rattle.common.specs.Tests.{all}
+use Rattle.common.specs.Tests.{zeros}
 use Rattle.xdr.specs.Be.{be}
 use Rattle.xdr.specs.Layout.{fields, size}
 use Rattle.xdr.specs.Array.{array, arraySize, element}
@@ -49,12 +50,15 @@ tableOf w t =
     }
 
 -- ".. zero bytes after it"
-abbrev pub zeros : List ℕ → Bool
-zeros = all (λ b. eqb b 0)
-
 abbrev pub recordsEnd : ℕ → List ℕ → ℕ
 recordsEnd w t = element (lockLayout w) (arrayAt w) (be 4 t (arrayAt w))
 
 -- What refusal 2 asks: its length, and every rule
-unfoldable pub soundBytes : List ℕ → Bool
-soundBytes t = eqb (length t) (tableSize width) && (sound (tableOf width t) && zeros (drop (recordsEnd width t) t))
+unfoldable pub soundTableBytes : List ℕ → Bool
+soundTableBytes t = eqb (length t) (tableSize width) && (sound (tableOf width t) && zeros (drop (recordsEnd width t) t))
+
+pub lock-size : size (lockLayout 4) ≡ 40
+lock-size = refl
+
+pub table-size : tableSize 4 ≡ 10312
+table-size = refl

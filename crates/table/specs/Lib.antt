@@ -1,4 +1,3 @@
 pub mod Table
 pub mod Sound
 pub mod Bytes
-pub mod Sizes

@@ -129,8 +129,9 @@ fn grant(table: &mut Table, request: &Record) -> Record {
     Record { state, number, last, ..*request }
 }
 
-/// The greatest last byte up to EOF for which the range conflicts with no other record.
-/// It is EOF or the byte before another record, since a conflict begins at a record's first byte.
+/// The greatest last byte up to EOF for which the range conflicts with no held lock and no other
+/// waiting request, that is with no other record. The asked range conflicts with none, and a longer
+/// one can begin to only at a record's first byte: so it is EOF or the byte before a record.
 fn widened(table: &Table, request: &Record) -> u64 {
     let others = || table.records.iter().filter(|other| other.handle != request.handle);
     let free = |last: &u64| {

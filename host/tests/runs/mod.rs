@@ -1,6 +1,6 @@
 //! Maps and logs written out by hand.
 
-/// The array of runs, each first, last and number, in a buffer of this length with zero bytes after.
+/// The array of runs, each first, last and number, with zero bytes after it up to this length.
 pub fn runs(length: usize, runs: &[(u64, u64, u32)]) -> Vec<u8> {
     let mut bytes = (runs.len() as u32).to_be_bytes().to_vec();
     for (first, last, number) in runs {

@@ -1,0 +1,9 @@
+pub mod Age
+pub mod Over
+pub mod Canon
+pub mod Join
+pub mod Draw
+pub mod Unique
+pub mod Fewer
+pub mod Valid
+pub mod Sound

@@ -1,0 +1,52 @@
+-- The bytes of maps and logs: the layouts, over the counter's width w, and the runs that bytes say.
+use Prim.Native.Nat.{ℕ}
+use mathlib.Core.Path.{_≡_, refl}
+use mathlib.Core.Bool.{Bool, _&&_}
+use mathlib.Core.List.{List, [], _∷_, map}
+use lib.Dec.{eqb}
+use lib.ListN.{length, getD, drop}
+use Rattle.common.specs.Counters.{width}
+use Rattle.common.specs.Tests.{zeros}
+use Rattle.xdr.specs.Be.{be}
+use Rattle.xdr.specs.Layout.{size}
+use Rattle.xdr.specs.Array.{array, arraySize, element}
+use Rattle.runs.specs.declared.Run.{Run}
+use Rattle.runs.specs.Owner.{run}
+use Rattle.runs.specs.Sound.{maxRuns, maxEntries, soundMap, soundLog}
+
+-- "runs (first, last, number: 20 bytes)"; "entries shaped as runs"
+abbrev pub runLayout : ℕ → List ℕ
+runLayout w = 8 ∷ 8 ∷ w ∷ []
+
+abbrev pub runOf : List ℕ → Run
+runOf fs = run (getD fs 0 0) (getD fs 1 0) (getD fs 2 0)
+
+unfoldable pub runsOf : ℕ → List ℕ → List Run
+runsOf w s = map runOf (array (runLayout w) s 0)
+
+-- "Map, exactly 20,484 bytes"; "Log, exactly 40,964 bytes"
+abbrev pub mapSize : ℕ → ℕ
+mapSize w = arraySize maxRuns (runLayout w)
+
+abbrev pub logSize : ℕ → ℕ
+logSize w = arraySize maxEntries (runLayout w)
+
+abbrev pub runsEnd : ℕ → List ℕ → ℕ
+runsEnd w s = element (runLayout w) 0 (be 4 s 0)
+
+-- What refusal 12 asks of a map: its length, every rule, and "zero bytes after"
+unfoldable pub soundMapBytes : List ℕ → Bool
+soundMapBytes s = eqb (length s) (mapSize width) && (soundMap (runsOf width s) && zeros (drop (runsEnd width s) s))
+
+-- What refusal 13 asks of a log: its length and every rule. "Bytes after the last entry may be anything"
+unfoldable pub soundLogBytes : List ℕ → Bool
+soundLogBytes s = eqb (length s) (logSize width) && soundLog (runsOf width s)
+
+pub run-size : size (runLayout 4) ≡ 20
+run-size = refl
+
+pub map-size : mapSize 4 ≡ 20484
+map-size = refl
+
+pub log-size : logSize 4 ≡ 40964
+log-size = refl

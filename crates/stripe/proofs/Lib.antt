@@ -1,0 +1,4 @@
+pub mod Accepted
+pub mod Outcome
+pub mod Carried
+pub mod Stored
