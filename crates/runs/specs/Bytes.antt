@@ -1,15 +1,15 @@
 -- The bytes of maps and logs: the layouts, over the counter's width w, and the runs that bytes say.
-use Prim.Native.Nat.{ℕ}
+use Prim.Native.Nat.{ℕ, _+_}
 use mathlib.Core.Path.{_≡_, refl}
 use mathlib.Core.Bool.{Bool, _&&_}
 use mathlib.Core.List.{List, [], _∷_, map}
 use lib.Dec.{eqb}
-use lib.ListN.{length, getD, drop}
+use lib.ListN.{length, getD, drop, replicate}
 use Rattle.common.specs.Counters.{width}
 use Rattle.common.specs.Tests.{zeros}
-use Rattle.xdr.specs.Be.{be}
-use Rattle.xdr.specs.Layout.{size}
-use Rattle.xdr.specs.Array.{array, arraySize, element}
+use Rattle.xdr.specs.Be.{be, putBe}
+use Rattle.xdr.specs.Layout.{putFields, size}
+use Rattle.xdr.specs.Array.{array, putArray, arraySize, element}
 use Rattle.runs.specs.declared.Run.{Run}
 use Rattle.runs.specs.Owner.{run}
 use Rattle.runs.specs.Sound.{maxRuns, maxEntries, soundMap, soundLog}
@@ -20,6 +20,9 @@ runLayout w = 8 ∷ 8 ∷ w ∷ []
 
 abbrev pub runOf : List ℕ → Run
 runOf fs = run (getD fs 0 0) (getD fs 1 0) (getD fs 2 0)
+
+abbrev pub runFields : Run → List ℕ
+runFields r = r .first ∷ r .last ∷ r .number .0 ∷ []
 
 unfoldable pub runsOf : ℕ → List ℕ → List Run
 runsOf w s = map runOf (array (runLayout w) s 0)
@@ -41,6 +44,14 @@ soundMapBytes s = eqb (length s) (mapSize width) && (soundMap (runsOf width s) &
 -- What refusal 13 asks of a log: its length and every rule. "Bytes after the last entry may be anything"
 unfoldable pub soundLogBytes : List ℕ → Bool
 soundLogBytes s = eqb (length s) (logSize width) && soundLog (runsOf width s)
+
+-- The bytes of a map: the array of its runs, over zeros
+unfoldable pub mapBytes : ℕ → List Run → List ℕ
+mapBytes w rs = putArray (runLayout w) (replicate (mapSize w) 0) 0 (map runFields rs)
+
+-- A log with one entry more: "the log changes only in the new entry's 20 bytes and the count"
+unfoldable pub appended : ℕ → List ℕ → Run → List ℕ
+appended w log r = putBe 4 (putFields (runLayout w) log (runsEnd w log) 0 (runFields r)) 0 (be 4 log 0 + 1)
 
 pub run-size : size (runLayout 4) ≡ 20
 run-size = refl
