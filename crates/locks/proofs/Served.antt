@@ -17,7 +17,7 @@ use Rattle.modes.specs.Codes.{knownMode, canceling}
 use Rattle.table.specs.declared.Lock.{Lock}
 use Rattle.table.specs.Table.{Table, handleOf, maxClient, maxStripe, maxRecords}
 use Rattle.table.specs.Sound.{valid, differ, share, agree, room, stripes, wants, sound}
-use Rattle.table.proofs.Facts.{valid→, →valid, →friends, Sound, sound→, →sound}
+use Rattle.table.proofs.Facts.{valid→, →valid, still-valid, →friends, Sound, sound→, →sound}
 use Rattle.locks.specs.declared.Message.{Message}
 use Rattle.locks.specs.declared.Message.the-variants.{Request, Acknowledge, Downgrade, Release}
 use Rattle.locks.specs.Settle.{Settled, Event, inState, revoked, turns, settle}
@@ -36,22 +36,7 @@ module _ (issued : ℕ) (lasts : List ℕ) (rs : List Lock) (c s m f l : ℕ) (S
   new = asking (issued + 1) c s m f l
 
   older : (r : Lock) → T (valid issued lasts r) → T (valid (issued + 1) lasts r)
-  older r t =
-      let v = valid→ issued lasts r t in
-      →valid (issued + 1) lasts r
-      (record {
-        handle-lo = v .handle-lo;
-        handle-hi = omega arith;
-        client-hi = v .client-hi;
-        stripe-hi = v .stripe-hi;
-        mode-lo = v .mode-lo;
-        mode-hi = v .mode-hi;
-        state-hi = v .state-hi;
-        ordered = v .ordered;
-        ends = v .ends;
-        number-of = v .number-of;
-        number-no = v .number-no;
-      })
+  older r t = →valid (issued + 1) lasts r (still-valid r (omega arith) (omega arith) (valid→ issued lasts r t))
 
   older-agree : (r : Lock) → T (valid issued lasts r) → T (agree r new)
   unfolding agree

@@ -19,7 +19,7 @@ use Rattle.modes.proofs.Rule.{passes, Passes}
 use Rattle.table.specs.declared.Lock.{Lock}
 use Rattle.table.specs.Table.{handleOf, numberOf, waits, held, writes}
 use Rattle.table.specs.Sound.{valid, differ, share, agree, room, stripes, wants}
-use Rattle.table.proofs.Facts.{Valid, valid→, →valid, Clear, Friends, →friends, friends-sym, Sound}
+use Rattle.table.proofs.Facts.{Valid, valid→, →valid, still-valid, Clear, Friends, →friends, friends-sym, Sound}
 use Rattle.locks.specs.Conflicts.{other, against, conflicts, obstacle, hurries}
 use Rattle.locks.specs.Settle.{given, nextNumber, lastsAfter, widest, grant, free}
 use Rattle.locks.proofs.Widening.{clear, at-most, at-least}
@@ -37,19 +37,7 @@ not-equal a b (inr h) = not-T (eqb a b) (λ e. let q = eqb→eq a b e in omega a
 
 -- A record that stays
 stays : (issued : ℕ) (lasts : List ℕ) (w r : Lock) → w .stripe < length lasts → Valid issued lasts r → Valid issued (lastsAfter lasts w) r
-stays issued lasts w r i v = record {
-  handle-lo = v .handle-lo;
-  handle-hi = v .handle-hi;
-  client-hi = v .client-hi;
-  stripe-hi = v .stripe-hi;
-  mode-lo = v .mode-lo;
-  mode-hi = v .mode-hi;
-  state-hi = v .state-hi;
-  ordered = v .ordered;
-  ends = v .ends;
-  number-of = λ h. (v .number-of h .0, let e = lasts-at lasts w i (r .stripe) in let n = v .number-of h in omega arith);
-  number-no = v .number-no;
-}
+stays issued lasts w r i v = still-valid r (le-refl issued) (let e = lasts-at lasts w i (r .stripe) in omega arith) v
 
 module _ (issued : ℕ) (lasts : List ℕ) (w : Lock) (s l : ℕ) where
   abbrev made : Lock

@@ -1,5 +1,6 @@
 -- What the tests of a sound table say, as facts with names, and back.
 use Prim.Native.Nat.{ℕ, _≤_, _<_}
+use native.Mathlib.Omega.{arith}
 use mathlib.Core.Bool.{Bool, not, _&&_, _||_, cond}
 use mathlib.Core.List.{List}
 use mathlib.Core.Logic.{_⊎_, inl, inr, ⊎-elim}
@@ -56,6 +57,23 @@ unfolding valid
     choice-i (held r && writes r) (within 1 (numberOf r) (getD lasts (r .stripe) 0)) (eqb (numberOf r) 0)
     (λ h. let n = v .number-of h in search (and-i, le→leb)) (λ h. eq→eqb (numberOf r) 0 (v .number-no h)) in
     search (and-i, le→leb) depth 12
+
+-- a record stays valid where more handles are issued or numbers taken
+pub still-valid : {issued issued′ : ℕ} {lasts lasts′ : List ℕ} (r : Lock) → issued ≤ issued′ → getD lasts (r .stripe) 0 ≤ getD lasts′ (r .stripe) 0 → Valid issued lasts r → Valid issued′ lasts′ r
+still-valid r h k v =
+    record {
+      handle-lo = v .handle-lo;
+      handle-hi = omega arith;
+      client-hi = v .client-hi;
+      stripe-hi = v .stripe-hi;
+      mode-lo = v .mode-lo;
+      mode-hi = v .mode-hi;
+      state-hi = v .state-hi;
+      ordered = v .ordered;
+      ends = v .ends;
+      number-of = λ t. let n = v .number-of t in (n .0, omega arith);
+      number-no = v .number-no;
+    }
 
 -- Two records
 pub record Yields (a b : Lock) : Type 0 where
