@@ -1,1 +1,3 @@
 pub mod Examples
+pub mod Run
+pub mod Demand3

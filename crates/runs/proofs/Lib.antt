@@ -7,3 +7,6 @@ pub mod Unique
 pub mod Fewer
 pub mod Valid
 pub mod Sound
+pub mod Blank
+pub mod MapBytes
+pub mod LogBytes

@@ -1,6 +1,6 @@
 -- The laws of `tab`: a list by its rule is known by its length and by each of its elements.
 use mathlib.Core.Path.{_≡_, refl, ap, ap₂}
-use mathlib.Core.List.{List, [], _∷_, map}
+use mathlib.Core.List.{List, [], _∷_, _++_, map}
 use Prim.Native.Nat.{ℕ, zero, suc, _<_}
 use native.Mathlib.Nat.{le-of-suc-le-suc, not-suc-le-zero}
 use native.Mathlib.Omega.{arith}
@@ -33,3 +33,9 @@ pub map-tab : {A B : Type 0} (g : A → B) (n : ℕ) (f : ℕ → A) → map g (
 unfolding tab
 map-tab g zero f = refl
 map-tab g (suc n) f = ap (λ l. g (f 0) ∷ l) (map-tab g n (λ k. f (suc k)))
+
+-- one more at the end
+pub tab-snoc : {A : Type 0} (n : ℕ) (f : ℕ → A) → tab (suc n) f ≡ tab n f ++ (f n ∷ [])
+unfolding tab
+tab-snoc zero f = refl
+tab-snoc (suc n) f = ap (λ l. f 0 ∷ l) (tab-snoc n (λ k. f (suc k)))

@@ -1,0 +1,210 @@
+-- What every run carries: the log's bytes are sound, its numbers small, its map short; and the map, while it is not lost, is sound and is the log's map.
+use Prim.Native.Nat.{ℕ, zero, suc, _+_, _≤_, _<_, max}
+use native.Mathlib.Omega.{arith}
+use mathlib.Core.Bool.{Bool, true, false, _&&_, cond}
+use mathlib.Core.List.{List, [], _∷_, _++_}
+use mathlib.Core.Path.{_≡_, refl, sym, ap, subst, subst₂, _∙_}
+use lib.Dec.{eqb, ltb}
+use lib.ListN.{length, getD, replicate}
+use borrow.Author.Tests.{eqb-true, eq-eqb, lt-ltb}
+use Rattle.common.specs.Counters.{width, highest}
+use Rattle.common.proofs.Bools.{by-cond}
+use Rattle.xdr.specs.Layout.{Fit}
+use Rattle.xdr.specs.Tab.{tab}
+use Rattle.xdr.proofs.Tabs.{length-tab, getD-tab}
+use Rattle.runs.specs.declared.Run.{Run}
+use Rattle.runs.specs.Owner.{owner, over, ageOf}
+use Rattle.runs.specs.Map.{mapOf, raise, draw, end}
+use Rattle.runs.specs.Sound.{maxRuns, maxEntries, soundMap, soundLog, allValid, apart}
+use Rattle.runs.specs.Bytes.{runLayout, runFields, runsOf, runsEnd, mapSize, logSize, soundMapBytes, soundLogBytes, mapBytes, appended}
+use Rattle.runs.proofs.Over.{over-is, owner-snoc}
+use Rattle.runs.proofs.Draw.{map-owner, raise-owner}
+use Rattle.runs.proofs.Unique.{map-snoc}
+use Rattle.runs.proofs.Valid.{Valid, valid-cons}
+use Rattle.runs.proofs.Sound.{log-is, sound-is, map-sound}
+use Rattle.runs.proofs.Blank.{no-runs, empty-map, empty-log}
+use Rattle.runs.proofs.MapBytes.{run-fits, map-back, map-back-sound, map-runs}
+use Rattle.runs.proofs.LogBytes.{LogBytes, log-bytes, bytes-log, entries, log-back, log-back-sound, log-same}
+use Rattle.stripe.specs.Refusals.{place}
+use Rattle.stripe.specs.Outcomes.{noteAnswer, noteMap, noteLog, restartAnswer, restartMap, writeImage}
+use Rattle.stripe.proofs.Accepted.{NoteFacts, note-facts, RestartFacts, restart-facts, facts-restart, place-valid}
+use Rattle.promises.specs.Run.{Piece, size, Map, lost, live, Stripe, begin, Step, note, noteCut, write, writeCut, restart, cut, noteOk, writeOk, afterNote, afterWrite, afterRestart, scrambled, unplugged, next}
+
+abbrev pub entriesOf : Stripe → List Run
+entriesOf s = runsOf width (s .log)
+
+abbrev pub placeOf : Piece → Run
+placeOf p = place (p .first) (size p) (p .number)
+
+abbrev pub IsMap : Map → List ℕ → Type 0
+IsMap lost log = Unit {0}
+IsMap (live m) log = (soundMapBytes m ≡ true) × (runsOf width m ≡ mapOf (runsOf width log))
+
+pub record Log (log : List ℕ) : Type 0 where
+  pub sound : LogBytes log
+  pub small : (b : ℕ) → owner (runsOf width log) b ≤ highest width
+  pub few : length (mapOf (runsOf width log)) ≤ maxRuns
+
+pub record Carried (s : Stripe) : Type 0 where
+  pub log : Log (s .log)
+  pub map : IsMap (s .map) (s .log)
+
+-- An accepted note: the log's bytes say one entry more, and the map's bytes are those of its map
+pub record Noted (m l : List ℕ) (p : Piece) (image : ℕ) : Type 0 where
+  pub some : 0 < size p
+  pub log : Log (noteLog m l (p .first) (size p) (p .number) image)
+  pub entries : runsOf width (noteLog m l (p .first) (size p) (p .number) image) ≡ runsOf width l ++ (placeOf p ∷ [])
+  pub map : IsMap (live (noteMap m l (p .first) (size p) (p .number) image)) (noteLog m l (p .first) (size p) (p .number) image)
+
+pub noted : (m log : List ℕ) (p : Piece) (image : ℕ) → Log log → IsMap (live m) log → eqb (noteAnswer m log (p .first) (size p) (p .number) image) 0 ≡ true → Noted m log p image
+unfolding noteAnswer noteMap noteLog
+noted m log p image L M e =
+    record {
+      some = F .placed .some;
+      log = subst Log (sym new-log) (record {
+        sound = log-bytes (appended width log r) (log-back-sound log r (L .sound) room fit v);
+        small = λ b. rw (back, owner-snoc (runsOf width log) r b) (let o = over-is (λ (k : ℕ). k ≤ highest width) r b (F .numbered .small) (omega arith) in omega (arith, L .small b));
+        few = rw (back, map-snoc (runsOf width log) r) (rw (M .1) at (F .few));
+      });
+      entries = ap (runsOf width) new-log ∙ back;
+      map = subst₂ (λ (a l : List ℕ). IsMap (live a) l) (sym new-map) (sym new-log)
+          (map-back-sound ms sound small, map-back ms sound small ∙ ap (λ (l : List Run). raise r l) (M .1) ∙ sym (map-snoc (runsOf width log) r) ∙ ap mapOf (sym back));
+    }
+  where
+    r : Run
+    r = placeOf p
+
+    F : NoteFacts (soundMapBytes m) (soundLogBytes log) (runsOf width m) (runsOf width log) (p .first) (size p) (p .number) image
+    F = note-facts (soundMapBytes m) (soundLogBytes log) (runsOf width m) (runsOf width log) (p .first) (size p) (p .number) image (eqb-true _ 0 e)
+
+    v : Valid r
+    v = place-valid (p .first) (size p) (p .number) (F .placed) (F .numbered)
+
+    fit : Fit (runLayout width) (runFields r)
+    fit = run-fits r v (F .numbered .small)
+
+    room : length (runsOf width log) < maxEntries
+    room = F .room
+
+    back : runsOf width (appended width log r) ≡ runsOf width log ++ (r ∷ [])
+    back = log-back log r (L .sound) room fit
+
+    ms : List Run
+    ms = raise r (runsOf width m)
+
+    sound : soundMap ms ≡ true
+    sound = map-sound (r ∷ runsOf width m) (valid-cons r (runsOf width m) v (sound-is (runsOf width m) (map-runs m (M .0)) .good)) (F .few)
+
+    small : (b : ℕ) → owner ms b ≤ highest width
+    small b = rw (raise-owner r (runsOf width m) b, M .1, map-owner (runsOf width log) b) (let o = over-is (λ (k : ℕ). k ≤ highest width) r b (F .numbered .small) (omega arith) in omega (arith, L .small b))
+
+    new-log : noteLog m log (p .first) (size p) (p .number) image ≡ appended width log r
+    new-log = ap (λ (t : Bool). cond t (appended width log r) log) e
+
+    new-map : noteMap m log (p .first) (size p) (p .number) image ≡ mapBytes width ms
+    new-map = ap (λ (t : Bool). cond t (mapBytes width ms) m) e
+
+-- Bytes past the entries say nothing
+module _ (junk : ℕ → ℕ) (log : List ℕ) (L : Log log) where
+  inside : runsEnd width log ≤ length log
+  inside = let e = entries log in let h = log-is (runsOf width log) (L .sound .sound) .few in let l = L .sound .long in omega arith
+
+  scrambled-same : (b : ℕ) → b < runsEnd width log → getD log b 0 ≡ getD (scrambled junk log) b 0
+  unfolding scrambled
+  scrambled-same b h =
+      sym (getD-tab (length log) (λ b. cond (ltb b (runsEnd width log)) (getD log b 0) (junk b)) b 0 (let i = inside in omega arith)
+      ∙ ap (λ (t : Bool). cond t (getD log b 0) (junk b)) (lt-ltb b (runsEnd width log) h))
+
+  pub scrambled-entries : runsOf width (scrambled junk log) ≡ runsOf width log
+  scrambled-entries = sym (log-same log (scrambled junk log) scrambled-same)
+
+  long : length (scrambled junk log) ≡ length log
+  unfolding scrambled
+  long = length-tab (length log) (λ b. cond (ltb b (runsEnd width log)) (getD log b 0) (junk b))
+
+  pub scrambled-log : Log (scrambled junk log)
+  scrambled-log =
+      record {
+        sound = record { long = long ∙ L .sound .long; sound = rw scrambled-entries (L .sound .sound) };
+        small = λ b. rw scrambled-entries (L .small b);
+        few = rw scrambled-entries (L .few);
+      }
+
+-- A restart answers 0, and leaves the log's map
+pub restarts : (buffer log : List ℕ) → Log log → length buffer ≡ mapSize width → restartAnswer buffer log ≡ 0
+unfolding restartAnswer
+restarts buffer log L h =
+    facts-restart (eqb (length buffer) (mapSize width)) (soundLogBytes log) (runsOf width log)
+    (record { mapped = eq-eqb (length buffer) (mapSize width) h; logged = bytes-log log (L .sound); few = L .few })
+
+restarted : (buffer log : List ℕ) → Log log → eqb (restartAnswer buffer log) 0 ≡ true → IsMap (live (restartMap buffer log)) log
+unfolding restartMap
+restarted buffer log L e =
+    subst (λ (m : List ℕ). IsMap (live m) log) (sym (ap (λ (t : Bool). cond t (mapBytes width (mapOf (runsOf width log))) buffer) e))
+    (map-back-sound (mapOf (runsOf width log)) sound small, map-back (mapOf (runsOf width log)) sound small)
+  where
+    sound : soundMap (mapOf (runsOf width log)) ≡ true
+    sound = map-sound (runsOf width log) (log-is (runsOf width log) (L .sound .sound) .good) (L .few)
+
+    small : (b : ℕ) → owner (mapOf (runsOf width log)) b ≤ highest width
+    small b = rw (map-owner (runsOf width log) b) (L .small b)
+
+-- A refused note changes nothing
+pub same-log : (m log : List ℕ) (f n x i : ℕ) → eqb (noteAnswer m log f n x i) 0 ≡ false → noteLog m log f n x i ≡ log
+unfolding noteLog
+same-log m log f n x i e = ap (λ (t : Bool). cond t (appended width log (place f n x)) log) e
+
+same-map : (m log : List ℕ) (f n x i : ℕ) → eqb (noteAnswer m log f n x i) 0 ≡ false → noteMap m log f n x i ≡ m
+unfolding noteMap
+same-map m log f n x i e = ap (λ (t : Bool). cond t (mapBytes width (raise (place f n x) (runsOf width m))) m) e
+
+-- Each step keeps what is carried
+note-kept : (mp : Map) (log image : List ℕ) (p : Piece) → Log log → IsMap mp log → Carried (afterNote (record { map = mp; log = log; image = image }) mp p)
+unfolding afterNote
+note-kept lost log image p L M = record { log = L; map = M }
+note-kept (live m) log image p L M = go (eqb (noteAnswer m log (p .first) (size p) (p .number) (length image)) 0) refl
+  where
+    new : Stripe
+    new = record { map = live (noteMap m log (p .first) (size p) (p .number) (length image)); log = noteLog m log (p .first) (size p) (p .number) (length image); image = image }
+
+    go : (t : Bool) → eqb (noteAnswer m log (p .first) (size p) (p .number) (length image)) 0 ≡ t → Carried new
+    go true e = let N = noted m log p (length image) L M e in record { log = N .log; map = N .map }
+    go false e =
+        record {
+          log = subst Log (sym (same-log m log (p .first) (size p) (p .number) (length image) e)) L;
+          map = subst₂ (λ (a l : List ℕ). IsMap (live a) l) (sym (same-map m log (p .first) (size p) (p .number) (length image) e)) (sym (same-log m log (p .first) (size p) (p .number) (length image) e)) M;
+        }
+
+write-kept : (mp : Map) (log image : List ℕ) (p : Piece) → Log log → IsMap mp log → Carried (afterWrite (record { map = mp; log = log; image = image }) mp p)
+unfolding afterWrite
+write-kept lost log image p L M = record { log = L; map = M }
+write-kept (live m) log image p L M = record { log = L; map = M }
+
+pub carried : (s : Stripe) (e : Step) → Carried s → Carried (next s e)
+unfolding next
+carried s (note p) C = note-kept (s .map) (s .log) (s .image) p (C .log) (C .map)
+carried s (noteCut new junk p) C =
+    record {
+      log = scrambled-log junk _ (by-cond (λ (l : List ℕ). Log l) (new && noteOk s (s .map) p) (afterNote s (s .map) p .log) (s .log) (λ t. note-kept (s .map) (s .log) (s .image) p (C .log) (C .map) .log) (λ t. C .log));
+      map = tt;
+    }
+carried s (write p) C = write-kept (s .map) (s .log) (s .image) p (C .log) (C .map)
+carried s (writeCut junk p) C = record { log = C .log; map = tt }
+carried s (restart buffer) C = go (eqb (restartAnswer buffer (s .log)) 0) refl
+  where
+    go : (t : Bool) → eqb (restartAnswer buffer (s .log)) 0 ≡ t → Carried (cond t (record { map = live (restartMap buffer (s .log)); log = s .log; image = s .image }) s)
+    go true e = record { log = C .log; map = restarted buffer (s .log) (C .log) e }
+    go false e = C
+carried s cut C = record { log = C .log; map = tt }
+
+pub begin-carried : (image : List ℕ) → Carried (begin image)
+unfolding owner mapOf draw end
+begin-carried image =
+    record {
+      log = record {
+        sound = log-bytes (replicate (logSize width) 0) empty-log;
+        small = λ b. rw (no-runs (logSize width)) (omega arith);
+        few = rw (no-runs (logSize width)) (omega arith);
+      };
+      map = (empty-map, no-runs (mapSize width) ∙ sym (ap mapOf (no-runs (logSize width))));
+    }

@@ -1,0 +1,44 @@
+-- DEMAND 3. "Take any pieces for a stripe, noted and written in any order and any number of times, with cuts anywhere, a restart after each. Suppose
+-- pieces of equal number agree where they overlap, each noted piece had a write accepted, and the last accepted write of every piece ran to its end.
+-- Then each byte under a noted piece is that of the noted piece with the greatest number there, and every other byte is as it began."
+use Prim.Native.Nat.{ℕ, _≤_}
+use mathlib.Core.Path.{_≡_}
+use mathlib.Core.Logic.{_⊎_}
+use mathlib.Core.Bool.{true}
+use mathlib.Core.List.{List, [], _∷_}
+use lib.ListN.{length, getD}
+use Rattle.promises.specs.Run.{Piece, ageOf, Covers, byteOf, Stripe, begin, Step, after, noted, Write, accepted, pieces}
+
+abbrev pub Among : Piece → List Piece → Type 0
+Among p [] = ⊥
+Among p (q ∷ qs) = (p ≡ q) ⊎ Among p qs
+
+abbrev pub HasWrite : Piece → List Write → Type 0
+HasWrite p [] = ⊥
+HasWrite p (w ∷ ws) = (p ≡ w .piece) ⊎ HasWrite p ws
+
+-- "pieces of equal number agree where they overlap"
+abbrev pub Agree : List Piece → Type 0
+Agree ps = (p q : Piece) → Among p ps → Among q ps → ageOf p ≡ ageOf q → (b : ℕ) → Covers p b → Covers q b → byteOf p b ≡ byteOf q b
+
+-- "the last accepted write of every piece ran to its end": a write that no later one of its piece follows is whole
+abbrev pub Finished : List Write → Type 0
+Finished [] = Unit {0}
+Finished (w ∷ ws) = ((HasWrite (w .piece) ws → ⊥) → w .whole ≡ true) × Finished ws
+
+-- p is the noted piece with the greatest number over b
+abbrev pub Greatest : List Piece → ℕ → Piece → Type 0
+Greatest ps b p = Among p ps × Covers p b × ((q : Piece) → Among q ps → Covers q b → ageOf q ≤ ageOf p)
+
+pub record Kept (ps : List Piece) (old new : List ℕ) : Type 0 where
+  pub under : (b : ℕ) (p : Piece) → Greatest ps b p → getD new b 0 ≡ byteOf p b
+  pub other : (b : ℕ) → ((p : Piece) → Among p ps → Covers p b → ⊥) → getD new b 0 ≡ getD old b 0
+  pub long : length new ≡ length old
+
+abbrev pub Demand3 : Type 0
+Demand3 =
+    (image : List ℕ) (es : List Step)
+    → Agree (pieces es)
+    → ((p : Piece) → Among p (noted (begin image) es) → HasWrite p (accepted (begin image) es))
+    → Finished (accepted (begin image) es)
+    → Kept (noted (begin image) es) image (after (begin image) es .image)

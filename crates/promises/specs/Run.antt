@@ -1,0 +1,151 @@
+-- A run of one stripe: notes, writes and restarts as the entries leave their buffers, with cuts anywhere. Document 01, "Note, write, restart".
+use Prim.Native.Nat.{ℕ, _+_, _-_, _≤_, _<_}
+use mathlib.Core.Bool.{Bool, true, false, _&&_, cond}
+use mathlib.Core.List.{List, [], _∷_, _++_}
+use lib.Dec.{eqb, ltb}
+use lib.ListN.{length, getD, replicate}
+use Rattle.common.specs.Counters.{width}
+use Rattle.xdr.specs.Tab.{tab}
+use Rattle.runs.specs.Bytes.{runsOf, runsEnd, mapSize, logSize}
+use Rattle.stripe.specs.Stripe.{written}
+use Rattle.stripe.specs.Outcomes.{noteAnswer, noteMap, noteLog, writeAnswer, writeImage, restartAnswer, restartMap}
+
+-- A piece: its first byte, its bytes and its number. Two pieces with all three alike are one piece
+pub record Piece : Type 0 where
+  pub first : ℕ
+  pub bytes : List ℕ
+  pub number : ℕ
+
+-- By what pieces are judged
+abbrev pub ageOf : Piece → ℕ
+ageOf p = p .number
+
+abbrev pub size : Piece → ℕ
+size p = length (p .bytes)
+
+-- b is a byte of the piece, and its value there
+abbrev pub Covers : Piece → ℕ → Type 0
+Covers p b = (p .first ≤ b) × (b < p .first + size p)
+
+abbrev pub byteOf : Piece → ℕ → ℕ
+byteOf p b = getD (p .bytes) (b - p .first) 0
+
+-- The stripe's buffers. "After any cut the map is lost"
+pub data Map : Type 0 where
+  lost : Map
+  live : List ℕ → Map
+
+pub record Stripe : Type 0 where
+  pub map : Map
+  pub log : List ℕ
+  pub image : List ℕ
+
+-- "A run starts with an empty map and log"
+abbrev pub begin : List ℕ → Stripe
+begin image = record { map = live (replicate (mapSize width) 0); log = replicate (logSize width) 0; image = image }
+
+-- A step: a call that runs to its end, a call that is cut, or a cut at any other time. Of a cut note `new` says whether it left the new log, and
+-- `junk` what stands past the entries; of a cut write `junk` says what it left at the places that it would store. Restart is lent a buffer of any content
+pub data Step : Type 0 where
+  note : Piece → Step
+  noteCut : (new : Bool) (junk : ℕ → ℕ) → Piece → Step
+  write : Piece → Step
+  writeCut : (junk : ℕ → ℕ) → Piece → Step
+  restart : (buffer : List ℕ) → Step
+  cut : Step
+
+-- Would the call answer 0? With the map lost "no note or write follows"
+unfoldable pub noteOk : Stripe → Map → Piece → Bool
+noteOk s lost p = false
+noteOk s (live m) p = eqb (noteAnswer m (s .log) (p .first) (size p) (p .number) (length (s .image))) 0
+
+unfoldable pub writeOk : Stripe → Map → Piece → Bool
+writeOk s lost p = false
+writeOk s (live m) p = eqb (writeAnswer m (s .image) (p .first) (p .bytes) (p .number)) 0
+
+-- What each call leaves when it runs to its end
+unfoldable pub afterNote : Stripe → Map → Piece → Stripe
+afterNote s lost p = s
+afterNote s (live m) p =
+    record {
+      map = live (noteMap m (s .log) (p .first) (size p) (p .number) (length (s .image)));
+      log = noteLog m (s .log) (p .first) (size p) (p .number) (length (s .image));
+      image = s .image;
+    }
+
+unfoldable pub afterWrite : Stripe → Map → Piece → Stripe
+afterWrite s lost p = s
+afterWrite s (live m) p =
+    record { map = live m; log = s .log; image = writeImage m (s .image) (p .first) (p .bytes) (p .number) }
+
+abbrev pub afterRestart : Stripe → List ℕ → Stripe
+afterRestart s buffer =
+    cond (eqb (restartAnswer buffer (s .log)) 0) (record { map = live (restartMap buffer (s .log)); log = s .log; image = s .image }) s
+
+-- "before the count changes, bytes past the old entries may be anything"
+unfoldable pub scrambled : (ℕ → ℕ) → List ℕ → List ℕ
+scrambled junk log = tab (length log) (λ b. cond (ltb b (runsEnd width log)) (getD log b 0) (junk b))
+
+-- "A cut in a write leaves any bytes at the places that this write would store, and none changed elsewhere"
+unfoldable pub torn : Stripe → Map → Piece → (ℕ → ℕ) → List ℕ
+torn s lost p junk = s .image
+torn s (live m) p junk = written (runsOf width m) (p .first) (tab (size p) junk) (p .number) (s .image)
+
+abbrev pub unplugged : List ℕ → List ℕ → Stripe
+unplugged log image = record { map = lost; log = log; image = image }
+
+-- The stripe after a step. "A cut in a note leaves the old log, or, if uncut it would have answered 0, the new one"
+unfoldable pub next : Stripe → Step → Stripe
+next s (note p) = afterNote s (s .map) p
+next s (noteCut new junk p) = unplugged (scrambled junk (cond (new && noteOk s (s .map) p) (afterNote s (s .map) p .log) (s .log))) (s .image)
+next s (write p) = afterWrite s (s .map) p
+next s (writeCut junk p) = unplugged (s .log) (cond (writeOk s (s .map) p) (torn s (s .map) p junk) (s .image))
+next s (restart buffer) = afterRestart s buffer
+next s cut = unplugged (s .log) (s .image)
+
+unfoldable pub after : Stripe → List Step → Stripe
+after s [] = s
+after s (e ∷ es) = after (next s e) es
+
+-- "A piece is noted once its note answered 0, or was cut and left the new log."
+unfoldable pub notes : Stripe → Step → List Piece
+notes s (note p) = cond (noteOk s (s .map) p) (p ∷ []) []
+notes s (noteCut new junk p) = cond (new && noteOk s (s .map) p) (p ∷ []) []
+notes s (write p) = []
+notes s (writeCut junk p) = []
+notes s (restart buffer) = []
+notes s cut = []
+
+unfoldable pub noted : Stripe → List Step → List Piece
+noted s [] = []
+noted s (e ∷ es) = notes s e ++ noted (next s e) es
+
+-- An accepted write, and whether it ran to its end. "A cut write counts as accepted if, uncut, it would have answered 0."
+pub record Write : Type 0 where
+  pub piece : Piece
+  pub whole : Bool
+
+unfoldable pub writes : Stripe → Step → List Write
+writes s (note p) = []
+writes s (noteCut new junk p) = []
+writes s (write p) = cond (writeOk s (s .map) p) (record { piece = p; whole = true } ∷ []) []
+writes s (writeCut junk p) = cond (writeOk s (s .map) p) (record { piece = p; whole = false } ∷ []) []
+writes s (restart buffer) = []
+writes s cut = []
+
+unfoldable pub accepted : Stripe → List Step → List Write
+accepted s [] = []
+accepted s (e ∷ es) = writes s e ++ accepted (next s e) es
+
+-- The pieces that the steps name
+unfoldable pub pieceOf : Step → List Piece
+pieceOf (note p) = p ∷ []
+pieceOf (noteCut new junk p) = p ∷ []
+pieceOf (write p) = p ∷ []
+pieceOf (writeCut junk p) = p ∷ []
+pieceOf (restart buffer) = []
+pieceOf cut = []
+
+unfoldable pub pieces : List Step → List Piece
+pieces [] = []
+pieces (e ∷ es) = pieceOf e ++ pieces es

@@ -1,0 +1,110 @@
+-- The bytes of a log with one entry more say one entry more, and the bytes past a log's entries say nothing.
+use Prim.Native.Nat.{ℕ, suc, _+_, _*_, _≤_, _<_}
+use native.Mathlib.Omega.{arith}
+use native.Mathlib.Numerals.{add-one}
+use mathlib.Core.Bool.{true, _&&_}
+use mathlib.Core.List.{List, [], _∷_, _++_, map, map-append}
+use mathlib.Core.Path.{_≡_, refl, sym, ap, subst, _∙_}
+use lib.Dec.{eqb}
+use lib.ListN.{length, getD, length-append, length-map}
+use borrow.Author.Tests.{eq-eqb, eqb-true}
+use Rattle.common.specs.Counters.{width}
+use Rattle.common.proofs.Bools.{and-left, and-right}
+use Rattle.xdr.specs.Be.{be, putBe}
+use Rattle.xdr.specs.Layout.{fields, putFields, Fit}
+use Rattle.xdr.specs.Array.{array}
+use Rattle.xdr.specs.Tab.{tab}
+use Rattle.xdr.proofs.Numbers.{be-put-same, put-length, put-other}
+use Rattle.xdr.proofs.Fields.{fields-ext, fields-put, put-fields-length, put-fields-other}
+use Rattle.xdr.proofs.Tabs.{tab-ext, tab-snoc, length-tab}
+use Rattle.xdr.proofs.Arrays.{array-ext}
+use Rattle.runs.specs.declared.Run.{Run}
+use Rattle.runs.specs.Sound.{maxEntries, soundLog}
+use Rattle.runs.specs.Bytes.{runLayout, runOf, runFields, runsOf, logSize, runsEnd, soundLogBytes, appended}
+use Rattle.runs.proofs.Valid.{Valid, valid-snoc}
+use Rattle.runs.proofs.Sound.{SoundLog, log-is, is-log}
+
+-- What a sound log's bytes have
+pub record LogBytes (log : List ℕ) : Type 0 where
+  pub long : length log ≡ logSize width
+  pub sound : soundLog (runsOf width log) ≡ true
+
+pub log-bytes : (log : List ℕ) → soundLogBytes log ≡ true → LogBytes log
+unfolding soundLogBytes
+log-bytes log e =
+    record {
+      long = eqb-true (length log) (logSize width) (and-left (eqb (length log) (logSize width)) (soundLog (runsOf width log)) e);
+      sound = and-right (eqb (length log) (logSize width)) (soundLog (runsOf width log)) e;
+    }
+
+pub bytes-log : (log : List ℕ) → LogBytes log → soundLogBytes log ≡ true
+unfolding soundLogBytes
+bytes-log log b = rw (eq-eqb (length log) (logSize width) (b .long), b .sound)
+
+-- the fields of entry i; how many entries there are
+abbrev entry : List ℕ → ℕ → List ℕ
+entry log i = fields (runLayout width) log (4 + 20 * i) 0
+
+pub entries : (log : List ℕ) → length (runsOf width log) ≡ be 4 log 0
+unfolding runsOf array
+entries log = length-map (tab (be 4 log 0) (entry log)) runOf ∙ length-tab (be 4 log 0) (entry log)
+
+-- A log with one entry more
+module _ (log : List ℕ) (r : Run) (l : LogBytes log) (room : length (runsOf width log) < maxEntries) (fit : Fit (runLayout width) (runFields r)) where
+  n : ℕ
+  n = be 4 log 0
+
+  -- the entry is put down, and then the count
+  put : List ℕ
+  put = putFields (runLayout width) log (4 + 20 * n) 0 (runFields r)
+
+  put-long : length put ≡ length log
+  unfolding put
+  put-long = put-fields-length (runLayout width) log (4 + 20 * n) 0 (runFields r)
+
+  appended-is : appended width log r ≡ putBe 4 put 0 (n + 1)
+  unfolding appended put n
+  appended-is = refl
+
+  few : n < maxEntries
+  unfolding n
+  few = subst (λ (k : ℕ). k < maxEntries) (entries log) room
+
+  more : be 4 (appended width log r) 0 ≡ n + 1
+  more = rw appended-is (be-put-same 4 put 0 (n + 1) (rw put-long (let z = l .long in omega arith)) (let z = few in omega arith))
+
+  counted : (i : ℕ) → entry (appended width log r) i ≡ entry put i
+  counted i = rw appended-is (fields-ext (runLayout width) _ put (4 + 20 * i) (4 + 20 * i) 0 (λ j p. put-other 4 put 0 (n + 1) (4 + 20 * i + (0 + j)) (λ k q e. omega arith)))
+
+  older : (i : ℕ) → i < n → entry (appended width log r) i ≡ entry log i
+  unfolding put
+  older i h =
+      counted i
+      ∙ fields-ext (runLayout width) _ log (4 + 20 * i) (4 + 20 * i) 0
+      (λ j p. put-fields-other (runLayout width) log (4 + 20 * n) 0 (runFields r) (4 + 20 * i + (0 + j)) (λ k q e. omega arith))
+
+  newer : entry (appended width log r) n ≡ runFields r
+  unfolding put
+  newer = counted n ∙ fields-put (runLayout width) log (4 + 20 * n) 0 (runFields r) (let z = few in let y = l .long in omega arith) fit
+
+  pub log-back : runsOf width (appended width log r) ≡ runsOf width log ++ (r ∷ [])
+  unfolding runsOf array n
+  log-back =
+      ap (λ (k : ℕ). map runOf (tab k (entry (appended width log r)))) (more ∙ add-one n)
+      ∙ ap (map runOf) (tab-snoc n (entry (appended width log r)) ∙ ap (λ (x : List ℕ). tab n (entry (appended width log r)) ++ (x ∷ [])) newer
+      ∙ ap (λ (xs : List (List ℕ)). xs ++ (runFields r ∷ [])) (tab-ext n (entry (appended width log r)) (entry log) older))
+      ∙ map-append runOf (tab n (entry log)) (runFields r ∷ [])
+
+  pub log-back-sound : Valid r → soundLogBytes (appended width log r) ≡ true
+  log-back-sound v =
+      bytes-log (appended width log r)
+      (record {
+        long = rw appended-is (put-length 4 put 0 (n + 1) ∙ put-long ∙ l .long);
+        sound = rw log-back (is-log (runsOf width log ++ (r ∷ []))
+            (record { few = omega (arith, length-append (runsOf width log) (r ∷ [])); good = valid-snoc (runsOf width log) r (log-is (runsOf width log) (l .sound) .good) v }));
+      })
+
+-- Two logs that agree up to the end of the entries
+pub log-same : (log log′ : List ℕ) → ((b : ℕ) → b < runsEnd width log → getD log b 0 ≡ getD log′ b 0) → runsOf width log ≡ runsOf width log′
+unfolding runsOf
+log-same log log′ h = ap (map runOf) (array-ext (runLayout width) log log′ 0 0 (λ j p. let q : _≡_ {A = ℕ} (0 + j) j = omega arith in rw q (h j (omega arith))))

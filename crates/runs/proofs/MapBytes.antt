@@ -1,0 +1,85 @@
+-- The bytes of a sound map of small numbers are a sound map's bytes, and say it.
+use Prim.Native.Nat.{ℕ, _+_, _*_, _≤_}
+use native.Mathlib.Omega.{arith}
+use mathlib.Core.Bool.{true, _&&_}
+use mathlib.Core.List.{List, [], _∷_, map}
+use mathlib.Core.Path.{_≡_, refl, sym, ap, _∙_}
+use lib.Dec.{eqb}
+use lib.ListN.{length, getD, drop, replicate, length-replicate, length-map}
+use borrow.Author.Tests.{eq-eqb}
+use Rattle.common.specs.Counters.{width, highest}
+use Rattle.common.specs.Tests.{zeros}
+use Rattle.common.proofs.Bools.{and-left, and-right}
+use Rattle.xdr.specs.Be.{be}
+use Rattle.xdr.specs.Layout.{fields, Fit}
+use Rattle.xdr.specs.Array.{array, putArray, Fits}
+use Rattle.xdr.proofs.Tabs.{length-tab}
+use Rattle.xdr.proofs.Arrays.{array-put, put-array-length, put-array-other}
+use Rattle.runs.specs.declared.Run.{Run}
+use Rattle.runs.specs.Owner.{ageOf, owner}
+use Rattle.runs.specs.Sound.{maxRuns, allValid, soundMap}
+use Rattle.runs.specs.Bytes.{runLayout, runOf, runFields, runsOf, mapSize, runsEnd, soundMapBytes, mapBytes}
+use Rattle.runs.proofs.Blank.{zeros-from, blank}
+use Rattle.runs.proofs.Canon.{Canon, none, next, canon-head}
+use Rattle.runs.proofs.Valid.{Valid, valid-head, valid-rest}
+use Rattle.runs.proofs.Sound.{sound-is, sound-canon}
+
+-- A run whose range is valid and whose number is not above the highest fits its fields
+pub run-fits : (r : Run) → Valid r → ageOf r ≤ highest width → Fit (runLayout width) (runFields r)
+run-fits r v h = (omega arith, (omega arith, (omega arith, tt)))
+
+-- Of canonical runs each has the age of its first byte
+runs-fit : {p q : ℕ} {rs : List Run} → Canon p q rs → allValid rs ≡ true → ((b : ℕ) → owner rs b ≤ highest width) → Fits (runLayout width) (map runFields rs)
+unfolding owner
+runs-fit none v h = tt
+runs-fit (next {r = r} {rs = rs} n c) v h =
+    let w = valid-head r rs v in
+    let e = canon-head (r .first) (next n c) (omega arith) (w .rising) in
+    (run-fits r w (omega (arith, h (r .first))), runs-fit c (valid-rest r rs v) (λ b. omega (arith, h b)))
+
+same-runs : (rs : List Run) → map runOf (map runFields rs) ≡ rs
+same-runs [] = refl
+same-runs (r ∷ rs) = ap (λ (l : List Run). r ∷ l) (same-runs rs)
+
+-- The bytes of a sound map of small numbers are a sound map's, and say it
+module _ (rs : List Run) (s : soundMap rs ≡ true) (h : (b : ℕ) → owner rs b ≤ highest width) where
+  few : length (map runFields rs) ≤ maxRuns
+  few = rw length-map (sound-is rs s .few)
+
+  fit : Fits (runLayout width) (map runFields rs)
+  fit = runs-fit (sound-canon rs s) (sound-is rs s .good) h
+
+  long : length (mapBytes width rs) ≡ mapSize width
+  unfolding mapBytes
+  long = put-array-length (runLayout width) (replicate (mapSize width) 0) 0 (map runFields rs) ∙ length-replicate {A = ℕ} (mapSize width) 0
+
+  said : array (runLayout width) (mapBytes width rs) 0 ≡ map runFields rs
+  unfolding mapBytes
+  said =
+      array-put (runLayout width) (replicate (mapSize width) 0) 0 (map runFields rs)
+      (rw (length-replicate {A = ℕ} (mapSize width) 0) (let f = few in omega arith)) (let f = few in omega arith) fit
+
+  pub map-back : runsOf width (mapBytes width rs) ≡ rs
+  unfolding runsOf
+  map-back = ap (map runOf) said ∙ same-runs rs
+
+  count : be 4 (mapBytes width rs) 0 ≡ length rs
+  unfolding array
+  count = sym (length-tab (be 4 (mapBytes width rs) 0) (λ i. fields (runLayout width) (mapBytes width rs) (4 + 20 * i) 0)) ∙ ap length said ∙ length-map rs runFields
+
+  tail : (b : ℕ) → runsEnd width (mapBytes width rs) ≤ b → getD (mapBytes width rs) b 0 ≡ 0
+  unfolding mapBytes
+  tail b l =
+      put-array-other (runLayout width) (replicate (mapSize width) 0) 0 (map runFields rs) b (λ j p e. let c = count in let q = length-map rs runFields in omega arith)
+      ∙ blank (mapSize width) b
+
+  pub map-back-sound : soundMapBytes (mapBytes width rs) ≡ true
+  unfolding soundMapBytes
+  map-back-sound = rw (eq-eqb (length (mapBytes width rs)) (mapSize width) long, map-back, s) (zeros-from (mapBytes width rs) (runsEnd width (mapBytes width rs)) tail)
+
+-- What a sound map's bytes say is a sound map
+pub map-runs : (m : List ℕ) → soundMapBytes m ≡ true → soundMap (runsOf width m) ≡ true
+unfolding soundMapBytes
+map-runs m e =
+    let h = and-right (eqb (length m) (mapSize width)) (soundMap (runsOf width m) && zeros (drop (runsEnd width m) m)) e in
+    and-left (soundMap (runsOf width m)) (zeros (drop (runsEnd width m) m)) h
