@@ -1,24 +1,24 @@
 -- The bytes of a sound map of small numbers are a sound map's bytes, and say it.
-use Prim.Native.Nat.{ℕ, _+_, _*_, _≤_}
+use Prim.Native.Nat.{ℕ, _+_, _*_, _^_, _≤_, _<_}
 use native.Mathlib.Omega.{arith}
 use mathlib.Core.Bool.{true, _&&_}
 use mathlib.Core.List.{List, [], _∷_, map}
 use mathlib.Core.Path.{_≡_, refl, sym, ap, _∙_}
 use lib.Dec.{eqb}
-use lib.ListN.{length, getD, drop, replicate, length-replicate, length-map}
+use lib.ListN.{length, drop, replicate, length-replicate, length-map}
 use borrow.Author.Tests.{eq-eqb}
 use Rattle.common.specs.Counters.{width, highest}
 use Rattle.common.specs.Tests.{zeros}
 use Rattle.common.proofs.Bools.{and-left, and-right}
 use Rattle.xdr.specs.Be.{be}
 use Rattle.xdr.specs.Layout.{fields, Fit}
-use Rattle.xdr.specs.Array.{array, putArray, Fits}
+use Rattle.xdr.specs.Array.{array, arraySize, Fits}
 use Rattle.xdr.proofs.Tabs.{length-tab}
 use Rattle.xdr.proofs.Arrays.{array-put, put-array-length, put-array-other}
 use Rattle.runs.specs.declared.Run.{Run}
 use Rattle.runs.specs.Owner.{ageOf, owner}
-use Rattle.runs.specs.Sound.{maxRuns, allValid, soundMap}
-use Rattle.runs.specs.Bytes.{runLayout, runOf, runFields, runsOf, mapSize, runsEnd, soundMapBytes, mapBytes}
+use Rattle.runs.specs.Sound.{allValid, soundMap}
+use Rattle.runs.specs.Bytes.{runLayout, runOf, runFields, runsOf, mapSize, runsEnd, soundMapBytes, bytesOf, mapBytes}
 use Rattle.runs.proofs.Blank.{zeros-from, blank}
 use Rattle.runs.proofs.Canon.{Canon, none, next, canon-head}
 use Rattle.runs.proofs.Valid.{Valid, valid-head, valid-rest}
@@ -41,41 +41,49 @@ same-runs : (rs : List Run) → map runOf (map runFields rs) ≡ rs
 same-runs [] = refl
 same-runs (r ∷ rs) = ap (λ (l : List Run). r ∷ l) (same-runs rs)
 
+-- Runs that fit, in n bytes that have room for them
+module _ (n : ℕ) (rs : List Run) (fit : Fits (runLayout width) (map runFields rs)) (room : arraySize (length rs) (runLayout width) ≤ n) (few : length rs < 2 ^ 32) where
+  pub bytes-length : length (bytesOf width n rs) ≡ n
+  bytes-length = put-array-length (runLayout width) (replicate n 0) 0 (map runFields rs) ∙ length-replicate {A = ℕ} n 0
+
+  said : array (runLayout width) (bytesOf width n rs) 0 ≡ map runFields rs
+  said =
+      let e = length-map rs runFields in
+      array-put (runLayout width) (replicate n 0) 0 (map runFields rs) (rw (length-replicate {A = ℕ} n 0) (omega arith)) (omega arith) fit
+
+  pub bytes-back : runsOf width (bytesOf width n rs) ≡ rs
+  unfolding runsOf
+  bytes-back = ap (map runOf) said ∙ same-runs rs
+
+  count : be 4 (bytesOf width n rs) 0 ≡ length rs
+  unfolding array
+  count = sym (length-tab (be 4 (bytesOf width n rs) 0) (λ i. fields (runLayout width) (bytesOf width n rs) (4 + 20 * i) 0)) ∙ ap length said ∙ length-map rs runFields
+
+  pub bytes-tail : zeros (drop (runsEnd width (bytesOf width n rs)) (bytesOf width n rs)) ≡ true
+  bytes-tail =
+      zeros-from (bytesOf width n rs) (runsEnd width (bytesOf width n rs))
+      (λ b l. put-array-other (runLayout width) (replicate n 0) 0 (map runFields rs) b (λ j p e. let c = count in let q = length-map rs runFields in omega arith) ∙ blank n b)
+
 -- The bytes of a sound map of small numbers are a sound map's, and say it
 module _ (rs : List Run) (s : soundMap rs ≡ true) (h : (b : ℕ) → owner rs b ≤ highest width) where
-  few : length (map runFields rs) ≤ maxRuns
-  few = rw length-map (sound-is rs s .few)
-
   fit : Fits (runLayout width) (map runFields rs)
   fit = runs-fit (sound-canon rs s) (sound-is rs s .good) h
 
-  long : length (mapBytes width rs) ≡ mapSize width
-  unfolding mapBytes
-  long = put-array-length (runLayout width) (replicate (mapSize width) 0) 0 (map runFields rs) ∙ length-replicate {A = ℕ} (mapSize width) 0
+  room : arraySize (length rs) (runLayout width) ≤ mapSize width
+  room = let f = sound-is rs s .few in omega arith
 
-  said : array (runLayout width) (mapBytes width rs) 0 ≡ map runFields rs
-  unfolding mapBytes
-  said =
-      array-put (runLayout width) (replicate (mapSize width) 0) 0 (map runFields rs)
-      (rw (length-replicate {A = ℕ} (mapSize width) 0) (let f = few in omega arith)) (let f = few in omega arith) fit
+  few : length rs < 2 ^ 32
+  few = let f = sound-is rs s .few in omega arith
 
   pub map-back : runsOf width (mapBytes width rs) ≡ rs
-  unfolding runsOf
-  map-back = ap (map runOf) said ∙ same-runs rs
-
-  count : be 4 (mapBytes width rs) 0 ≡ length rs
-  unfolding array
-  count = sym (length-tab (be 4 (mapBytes width rs) 0) (λ i. fields (runLayout width) (mapBytes width rs) (4 + 20 * i) 0)) ∙ ap length said ∙ length-map rs runFields
-
-  tail : (b : ℕ) → runsEnd width (mapBytes width rs) ≤ b → getD (mapBytes width rs) b 0 ≡ 0
   unfolding mapBytes
-  tail b l =
-      put-array-other (runLayout width) (replicate (mapSize width) 0) 0 (map runFields rs) b (λ j p e. let c = count in let q = length-map rs runFields in omega arith)
-      ∙ blank (mapSize width) b
+  map-back = bytes-back (mapSize width) rs fit room few
 
   pub map-back-sound : soundMapBytes (mapBytes width rs) ≡ true
-  unfolding soundMapBytes
-  map-back-sound = rw (eq-eqb (length (mapBytes width rs)) (mapSize width) long, map-back, s) (zeros-from (mapBytes width rs) (runsEnd width (mapBytes width rs)) tail)
+  unfolding soundMapBytes mapBytes
+  map-back-sound =
+      rw (eq-eqb (length (bytesOf width (mapSize width) rs)) (mapSize width) (bytes-length (mapSize width) rs fit room few), bytes-back (mapSize width) rs fit room few, s)
+      (bytes-tail (mapSize width) rs fit room few)
 
 -- What a sound map's bytes say is a sound map
 pub map-runs : (m : List ℕ) → soundMapBytes m ≡ true → soundMap (runsOf width m) ≡ true

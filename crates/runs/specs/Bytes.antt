@@ -45,9 +45,13 @@ soundMapBytes s = eqb (length s) (mapSize width) && (soundMap (runsOf width s) &
 unfoldable pub soundLogBytes : List ℕ → Bool
 soundLogBytes s = eqb (length s) (logSize width) && soundLog (runsOf width s)
 
--- The bytes of a map: the array of its runs, over zeros
+-- The array of runs at the start of n bytes, "zero bytes after"
+abbrev pub bytesOf : ℕ → ℕ → List Run → List ℕ
+bytesOf w n rs = putArray (runLayout w) (replicate n 0) 0 (map runFields rs)
+
+-- The bytes of a map
 unfoldable pub mapBytes : ℕ → List Run → List ℕ
-mapBytes w rs = putArray (runLayout w) (replicate (mapSize w) 0) 0 (map runFields rs)
+mapBytes w rs = bytesOf w (mapSize w) rs
 
 -- A log with one entry more: "the log changes only in the new entry's 20 bytes and the count"
 unfoldable pub appended : ℕ → List ℕ → Run → List ℕ

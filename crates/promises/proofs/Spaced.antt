@@ -1,0 +1,70 @@
+-- Runs of one byte with a byte between them: a sound map, and one run more for each.
+use Prim.Native.Nat.{ℕ, zero, suc, _+_, _*_, _≤_, _<_}
+use native.Mathlib.Omega.{arith}
+use mathlib.Core.Bool.{true}
+use mathlib.Core.List.{List, [], _∷_, _++_}
+use mathlib.Core.Path.{_≡_, refl, sym, ap, subst, _∙_}
+use lib.ListN.{length}
+use Rattle.common.specs.Counters.{width, highest}
+use Rattle.common.specs.Ranges.{eof}
+use Rattle.runs.specs.declared.Run.{Run}
+use Rattle.runs.specs.Owner.{run, over, owner}
+use Rattle.runs.specs.Map.{mapOf, raise}
+use Rattle.runs.specs.Sound.{maxRuns, allValid, soundMap, sane}
+use Rattle.runs.proofs.Age.{pos-sane}
+use Rattle.runs.proofs.Over.{over-is}
+use Rattle.runs.proofs.Canon.{Next, Canon, none, next}
+use Rattle.runs.proofs.Unique.{map-map, map-snoc}
+use Rattle.runs.proofs.Valid.{valid-cons}
+use Rattle.runs.proofs.Sound.{map-sound}
+
+pub spaced : ℕ → ℕ → List Run
+spaced b zero = []
+spaced b (suc n) = run b b 1 ∷ spaced (b + 2) n
+
+pub spaced-length : (b n : ℕ) → length (spaced b n) ≡ n
+unfolding spaced
+spaced-length b zero = refl
+spaced-length b (suc n) = ap suc (spaced-length (b + 2) n)
+
+spaced-canon : (b n p q : ℕ) → p < b → Canon p q (spaced b n)
+unfolding spaced
+spaced-canon b zero p q h = none
+spaced-canon b (suc n) p q h =
+    let w : Next p q (run b b 1) = record { after = omega arith; rising = omega arith; some = omega arith; other = λ e _. omega arith } in
+    next w (spaced-canon (b + 2) n (suc b) 1 (omega arith))
+
+spaced-valid : (b n : ℕ) → b + 2 * n ≤ eof → allValid (spaced b n) ≡ true
+unfolding spaced
+spaced-valid b zero h = refl
+spaced-valid b (suc n) h = valid-cons (run b b 1) (spaced (b + 2) n) (record { rising = omega arith; short = omega arith; some = pos-sane 1 (omega arith) }) (spaced-valid (b + 2) n (omega arith))
+
+pub spaced-small : (b n x : ℕ) → owner (spaced b n) x ≤ highest width
+unfolding spaced owner
+spaced-small b zero x = omega arith
+spaced-small b (suc n) x =
+    let o = over-is (λ (k : ℕ). k ≤ 1) (run b b 1) x (omega arith) (omega arith) in
+    omega (arith, spaced-small (b + 2) n x)
+
+pub spaced-map : (n : ℕ) → mapOf (spaced 1 n) ≡ spaced 1 n
+spaced-map n = map-map (spaced 1 n) (spaced-canon 1 n 0 0 (omega arith))
+
+pub spaced-sound : (n : ℕ) → n ≤ maxRuns → soundMap (spaced 1 n) ≡ true
+spaced-sound n h =
+    subst (λ (l : List Run). soundMap l ≡ true) (spaced-map n)
+    (map-sound (spaced 1 n) (spaced-valid 1 n (omega arith)) (rw (spaced-map n) (rw (spaced-length 1 n) h)))
+
+spaced-snoc : (b n : ℕ) → spaced b (suc n) ≡ spaced b n ++ (run (b + 2 * n) (b + 2 * n) 1 ∷ [])
+unfolding spaced
+spaced-snoc b zero = let e : b ≡ b + 2 * 0 = omega arith in ap (λ (k : ℕ). run k k 1 ∷ []) e
+spaced-snoc b (suc n) =
+    let e : (b + 2) + 2 * n ≡ b + 2 * suc n = omega arith in
+    ap (λ (l : List Run). run b b 1 ∷ l) (spaced-snoc (b + 2) n ∙ ap (λ (k : ℕ). spaced (b + 2) n ++ (run k k 1 ∷ [])) e)
+
+-- one run more
+pub spaced-raised : (n : ℕ) → raise (run (1 + 2 * n) (1 + 2 * n) 1) (spaced 1 n) ≡ spaced 1 (suc n)
+spaced-raised n =
+    ap (λ (l : List Run). raise (run (1 + 2 * n) (1 + 2 * n) 1) l) (sym (spaced-map n))
+    ∙ sym (map-snoc (spaced 1 n) (run (1 + 2 * n) (1 + 2 * n) 1))
+    ∙ ap mapOf (sym (spaced-snoc 1 n))
+    ∙ spaced-map (suc n)
