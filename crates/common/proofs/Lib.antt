@@ -3,3 +3,4 @@ pub mod Listed
 pub mod Sublist
 pub mod Order
 pub mod Refusals
+pub mod Rests

@@ -10,3 +10,4 @@ pub mod Sound
 pub mod Blank
 pub mod MapBytes
 pub mod LogBytes
+pub mod OneByOne

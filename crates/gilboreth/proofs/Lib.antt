@@ -1,0 +1,2 @@
+pub mod WriteRules
+pub mod WriteOutcome

@@ -1,0 +1,28 @@
+-- A write's answer decides the image: refused, it stays; accepted, no rule is broken and the piece's stretch is what is stored there.
+use Prim.Native.Nat.{ℕ}
+use mathlib.Core.Path.{_≡_, sym, _∙_}
+use mathlib.Core.List.{List}
+use lib.ListN.{length}
+use borrow.Author.Tests.{ne-eqb}
+use borrow.Rule.Slice.PartMut.{midOf, putMid}
+use Rattle.common.specs.Counters.{width}
+use Rattle.runs.specs.Bytes.{runsOf, soundMapBytes}
+use Rattle.stripe.specs.Stripe.{stored}
+use Rattle.stripe.proofs.Accepted.{WriteFacts, write-facts}
+use Rattle.stripe.proofs.Stretch.{written-part}
+use Rattle.gilboreth.specs.Write.{writeAnswer, writeImage}
+
+module _ (map : List ℕ) (first : ℕ) (piece : List ℕ) (number : ℕ) (image : List ℕ) (r : ℕ) (e : r ≡ writeAnswer map first (length piece) number (length image)) where
+  pub write-refused : (r ≡ 0 → ⊥) → (r ≡ writeAnswer map first (length piece) number (length image)) × (image ≡ writeImage map first piece number image)
+  unfolding writeImage
+  write-refused n = (e, rw (← e, ne-eqb r 0 n))
+
+  module _ (z : r ≡ 0) where
+    pub write-passed : WriteFacts (soundMapBytes map) (runsOf width map) first (length piece) number (length image)
+    unfolding writeAnswer
+    write-passed = write-facts (soundMapBytes map) (runsOf width map) first (length piece) number (length image) (sym e ∙ z)
+
+    pub write-accepted : (k : ℕ) (part : List ℕ) → k ≡ length piece → part ≡ stored (runsOf width map) number first piece (midOf first k image)
+        → (0 ≡ writeAnswer map first (length piece) number (length image)) × (putMid first k image part ≡ writeImage map first piece number image)
+    unfolding writeImage
+    write-accepted k part l p = (sym z ∙ e, rw (← e, z, p, written-part (runsOf width map) number first k piece image l))

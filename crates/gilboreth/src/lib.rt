@@ -1,0 +1,3 @@
+// The public entries, exported to C.
+mod place;
+pub mod write;

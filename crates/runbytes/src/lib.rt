@@ -1,0 +1,144 @@
+// Runs in bytes: reads and stores one, and tests maps and logs.
+use common::Number;
+use runs::Run;
+ghost use mathlib.Core.Path.{_≡_};
+ghost use Prim.Native.Nat.{_+_, _≤_, _<_, _^_};
+ghost use lib.ListN.{length, drop};
+ghost use Rattle.common.specs.Counters.{width};
+ghost use Rattle.common.specs.Tests.{zeros};
+ghost use Rattle.xdr.specs.Be.{be};
+ghost use Rattle.xdr.specs.Layout.{putFields};
+ghost use Rattle.xdr.specs.Array.{element};
+ghost use Rattle.runs.specs.Sound.{valid, allValid, leads, apart};
+ghost use Rattle.runs.specs.Bytes.{runLayout, runFields, runsOf, runsEnd, soundMapBytes, soundLogBytes};
+ghost use Rattle.runbytes.specs.Places.{runAt};
+
+// The document's numbers: EOF, the most runs and entries, and the bytes of a map and of a log.
+pub const EOF: u64 = 9223372036854775807;
+
+pub const MAX_RUNS: usize = 1024;
+
+pub const MAX_ENTRIES: usize = 2048;
+
+pub const MAP_SIZE: usize = 20484;
+
+pub const LOG_SIZE: usize = 40964;
+
+// Counts the runs of a map or the entries of a log.
+pub fn count(s: &[u8]) -> usize
+    requires { ⌜ 4 ≤ length (now s) ⌝ }
+    ensures { λ r. ⌜ (r ≡ be 4 (now (s .entry)) 0) × (r < 2 ^ 32) ⌝ }
+{
+    xdr::u32_at(s, 0) as usize
+}
+
+// Reads the run at place i.
+pub fn run_at(s: &[u8], i: usize) -> Run
+    requires { ⌜ element (runLayout width) 0 (i + 1) ≤ length (now s) ⌝ }
+    ensures { λ r. ⌜ r ≡ runAt (now (s .entry)) i ⌝ }
+{
+    let at = 4 + 20 * i;
+    Run {
+        first: xdr::u64_at(s, at),
+        last: xdr::u64_at(s, at + 8),
+        number: Number(xdr::u32_at(s, at + 16)),
+    }
+}
+
+// Stores a run at place k.
+pub fn put_run(s: &mut [u8], k: usize, r: Run)
+    requires { ⌜ element (runLayout width) 0 (k + 1) ≤ length (now s) ⌝ }
+    ensures { λ _. ⌜ now (s .exit) ≡ putFields (runLayout width) (now (s .entry)) (element (runLayout width) 0 k) 0 (runFields r) ⌝ }
+{
+    let at = 4 + 20 * k;
+    xdr::put_u64(s, at, r.first);
+    xdr::put_u64(s, at + 8, r.last);
+    xdr::put_u32(s, at + 16, r.number.0);
+}
+
+// Tests that a run is a valid range with a number at least 1.
+fn is_valid(r: Run) -> bool
+    ensures { λ b. ⌜ b ≡ valid r ⌝ }
+{
+    (r.first <= r.last) & (r.last <= EOF) & (0 < r.number.0)
+}
+
+// Tests that every run is valid.
+fn all_valid(s: &[u8]) -> bool
+    requires { ⌜ runsEnd width (now s) ≤ length (now s) ⌝ }
+    ensures { λ r. ⌜ r ≡ allValid (runsOf width (now (s .entry))) ⌝ }
+{
+    let n = count(s);
+    let mut ok = true;
+    let mut i: usize = 0;
+    while i < n {
+        ok = ok & is_valid(run_at(s, i));
+        i += 1;
+    }
+    ok
+}
+
+// Tests that a run ends before the next starts, and that they differ where they touch.
+fn is_apart(r: Run, t: Run) -> bool
+    ensures { λ b. ⌜ b ≡ leads r t ⌝ }
+{
+    if r.last < t.first {
+        return !((r.last + 1 == t.first) & (r.number.0 == t.number.0));
+    }
+    false
+}
+
+// Tests that the runs rise, without common bytes, and that touching ones differ.
+fn all_apart(s: &[u8]) -> bool
+    requires { ⌜ runsEnd width (now s) ≤ length (now s) ⌝ }
+    ensures { λ r. ⌜ r ≡ apart (runsOf width (now (s .entry))) ⌝ }
+{
+    let n = count(s);
+    let mut ok = true;
+    let mut i: usize = 0;
+    while i + 1 < n {
+        ok = ok & is_apart(run_at(s, i), run_at(s, i + 1));
+        i += 1;
+    }
+    ok
+}
+
+// Tests that the bytes from `from` on are zeros.
+fn is_blank(s: &[u8], from: usize) -> bool
+    ensures { λ r. ⌜ r ≡ zeros (drop from (now (s .entry))) ⌝ }
+{
+    let mut ok = true;
+    let mut i = from;
+    while i < s.len() {
+        ok = ok & (s[i] == 0);
+        i += 1;
+    }
+    ok
+}
+
+// Tests whether the bytes are a sound map.
+pub fn map_sound(s: &[u8]) -> bool
+    ensures { λ r. ⌜ r ≡ soundMapBytes (now (s .entry)) ⌝ }
+{
+    if s.len() != MAP_SIZE {
+        return false;
+    }
+    let n = count(s);
+    if MAX_RUNS < n {
+        return false;
+    }
+    all_valid(s) & all_apart(s) & is_blank(s, 4 + 20 * n)
+}
+
+// Tests whether the bytes are a sound log.
+pub fn log_sound(s: &[u8]) -> bool
+    ensures { λ r. ⌜ r ≡ soundLogBytes (now (s .entry)) ⌝ }
+{
+    if s.len() != LOG_SIZE {
+        return false;
+    }
+    if MAX_ENTRIES < count(s) {
+        return false;
+    }
+    all_valid(s)
+}

@@ -1,0 +1,97 @@
+// Storing a piece where the map has its number, and the test before it.
+use common::Number;
+use runs::Run;
+ghost use mathlib.Core.Path.{_≡_};
+ghost use mathlib.Core.Bool.{true};
+ghost use mathlib.Core.List.{[], _∷_};
+ghost use Prim.Native.Nat.{_+_, _-_, _^_, _≤_, _<_, min};
+ghost use lib.ListN.{length};
+ghost use Rattle.common.specs.Counters.{width};
+ghost use Rattle.common.specs.Ranges.{eof};
+ghost use Rattle.runs.specs.Bytes.{runsOf, soundMapBytes};
+ghost use Rattle.stripe.specs.Refusals.{behind};
+ghost use Rattle.stripe.specs.Stripe.{stored};
+ghost use Rattle.store.specs.Past.{past};
+
+// Copies the piece into the part.
+fn copy(part: &mut [u8], piece: &[u8])
+    requires { ⌜ length (now part) ≡ length (now piece) ⌝ }
+    ensures { λ _. ⌜ now (part .exit) ≡ now (piece .entry) ⌝ }
+{
+    let mut i = 0;
+    while i < piece.len() {
+        part[i] = piece[i];
+        i += 1;
+    }
+}
+
+// Finds where the byte b stands in a piece of `len` bytes from `first` on: at 0 if it is before the piece, at `len` if it is past it.
+fn spot(b: u64, first: u64, len: usize) -> usize
+    ensures { λ r. ⌜ r ≡ min (b - first) len ⌝ }
+{
+    if b < first {
+        return 0;
+    }
+    let at = (b - first) as usize;
+    if len < at {
+        return len;
+    }
+    at
+}
+
+// Stores what one run lets through: the piece's bytes in the run, if it has the piece's number.
+fn store_run(part: &mut [u8], piece: &[u8], first: u64, r: Run, number: Number)
+    requires { ⌜ (length (now part) ≡ length (now piece)) × (0 < number .0) × (r .first ≤ r .last) × (r .last ≤ eof) ⌝ }
+    ensures { λ _. ⌜ now (part .exit) ≡ stored (r ∷ []) (number .0) first (now (piece .entry)) (now (part .entry)) ⌝ }
+{
+    if r.number.0 == number.0 {
+        let from = spot(r.first, first, piece.len());
+        let to = spot(r.last + 1, first, piece.len());
+        copy(&mut part[from..to], &piece[from..to]);
+    }
+}
+
+// Finds the byte to ask about after b: the one past the run, if the run is over b at the number or above it.
+fn pass(r: Run, number: Number, b: u64) -> u64
+    requires { ⌜ r .last ≤ eof ⌝ }
+    ensures { λ y. ⌜ y ≡ past r (number .0) b ⌝ }
+{
+    if b < r.first {
+        return b;
+    }
+    if r.last < b {
+        return b;
+    }
+    if r.number.0 < number.0 {
+        return b;
+    }
+    r.last + 1
+}
+
+// Tests whether some byte of the `len` from `first` on has a smaller number in the map.
+pub fn is_behind(map: &[u8], first: u64, len: u64, number: Number) -> bool
+    requires { ⌜ (soundMapBytes (now map) ≡ true) × (0 < number .0) × (first + len < 2 ^ 64) ⌝ }
+    ensures { λ r. ⌜ r ≡ behind (runsOf width (now (map .entry))) (number .0) first len ⌝ }
+{
+    let n = runbytes::count(map);
+    let mut b = first;
+    let mut i: usize = 0;
+    while i < n {
+        b = pass(runbytes::run_at(map, i), number, b);
+        i += 1;
+    }
+    b < first + len
+}
+
+// Stores the piece in the part of the image that is its own, where the map has its number.
+pub fn store(part: &mut [u8], piece: &[u8], map: &[u8], first: u64, number: Number)
+    requires { ⌜ (soundMapBytes (now map) ≡ true) × (0 < number .0) × (length (now part) ≡ length (now piece)) ⌝ }
+    ensures { λ _. ⌜ now (part .exit) ≡ stored (runsOf width (now (map .entry))) (number .0) first (now (piece .entry)) (now (part .entry)) ⌝ }
+{
+    let n = runbytes::count(map);
+    let mut i: usize = 0;
+    while i < n {
+        store_run(part, piece, first, runbytes::run_at(map, i), number);
+        i += 1;
+    }
+}
