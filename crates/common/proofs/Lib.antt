@@ -4,3 +4,4 @@ pub mod Sublist
 pub mod Order
 pub mod Refusals
 pub mod Rests
+pub mod Firsts

@@ -10,12 +10,12 @@ use Rattle.runs.specs.Bytes.{runsOf, soundMapBytes}
 use Rattle.stripe.specs.Stripe.{stored}
 use Rattle.stripe.proofs.Accepted.{WriteFacts, write-facts}
 use Rattle.stripe.proofs.Stretch.{written-part}
-use Rattle.gilboreth.specs.Write.{writeAnswer, writeImage}
+use Rattle.gilboreth.specs.Write.{writeAnswer, writeImage, Writes}
 
 module _ (map : List ℕ) (first : ℕ) (piece : List ℕ) (number : ℕ) (image : List ℕ) (r : ℕ) (e : r ≡ writeAnswer map first (length piece) number (length image)) where
-  pub write-refused : (r ≡ 0 → ⊥) → (r ≡ writeAnswer map first (length piece) number (length image)) × (image ≡ writeImage map first piece number image)
+  pub write-refused : (r ≡ 0 → ⊥) → Writes map first piece number image r image
   unfolding writeImage
-  write-refused n = (e, rw (← e, ne-eqb r 0 n))
+  write-refused n = record { answers = e; stores = rw (← e, ne-eqb r 0 n) }
 
   module _ (z : r ≡ 0) where
     pub write-passed : WriteFacts (soundMapBytes map) (runsOf width map) first (length piece) number (length image)
@@ -23,6 +23,6 @@ module _ (map : List ℕ) (first : ℕ) (piece : List ℕ) (number : ℕ) (image
     write-passed = write-facts (soundMapBytes map) (runsOf width map) first (length piece) number (length image) (sym e ∙ z)
 
     pub write-accepted : (k : ℕ) (part : List ℕ) → k ≡ length piece → part ≡ stored (runsOf width map) number first piece (midOf first k image)
-        → (0 ≡ writeAnswer map first (length piece) number (length image)) × (putMid first k image part ≡ writeImage map first piece number image)
+        → Writes map first piece number image 0 (putMid first k image part)
     unfolding writeImage
-    write-accepted k part l p = (sym z ∙ e, rw (← e, z, p, written-part (runsOf width map) number first k piece image l))
+    write-accepted k part l p = record { answers = sym z ∙ e; stores = rw (← e, z, p, written-part (runsOf width map) number first k piece image l) }

@@ -2,8 +2,7 @@
 use crate::place;
 use common::Number;
 ghost use mathlib.Core.Path.{_≡_};
-ghost use lib.ListN.{length};
-ghost use Rattle.gilboreth.specs.Write.{writeAnswer, writeImage};
+ghost use Rattle.gilboreth.specs.Write.{writeAnswer, Writes};
 
 // Finds the first refusal that a write meets, or 0.
 fn refusal(map: &[u8], first: u64, len: u64, number: u64, image: u64) -> u64
@@ -33,7 +32,7 @@ pub extern "C" fn gil_write(
     piece: &[u8],
     number: u64,
 ) -> u64
-    ensures { λ r. ⌜ (r ≡ writeAnswer (now (map .entry)) first (length (now (piece .entry))) number (length (now (image .entry)))) × (now (image .exit) ≡ writeImage (now (map .entry)) first (now (piece .entry)) number (now (image .entry))) ⌝ }
+    ensures { λ r. ⌜ Writes (now (map .entry)) first (now (piece .entry)) number (now (image .entry)) r (now (image .exit)) ⌝ }
 {
     let r = refusal(map, first, piece.len() as u64, number, image.len() as u64);
     if r != 0 {

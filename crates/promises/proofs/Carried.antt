@@ -26,7 +26,9 @@ use Rattle.runs.proofs.Blank.{no-runs, empty-map, empty-log}
 use Rattle.runs.proofs.MapBytes.{run-fits, map-back, map-back-sound, map-runs}
 use Rattle.runs.proofs.LogBytes.{LogBytes, log-bytes, bytes-log, entries, log-back, log-back-sound, log-same}
 use Rattle.stripe.specs.Refusals.{place}
-use Rattle.stripe.specs.Outcomes.{noteAnswer, noteMap, noteLog, restartAnswer, restartMap, writeImage}
+use Rattle.gilboreth.specs.Note.{noteAnswer, noteMap, noteLog}
+use Rattle.gilboreth.specs.Write.{writeImage}
+use Rattle.gilboreth.specs.Restart.{restartAnswer, restartMap}
 use Rattle.stripe.proofs.Accepted.{NoteFacts, note-facts, RestartFacts, restart-facts, facts-restart, place-valid}
 use Rattle.promises.specs.Run.{Piece, size, Map, lost, live, Stripe, begin, Step, note, noteCut, write, writeCut, restart, cut, noteOk, writeOk, afterNote, afterWrite, afterRestart, scrambled, unplugged, next}
 

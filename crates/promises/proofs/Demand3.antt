@@ -13,7 +13,7 @@ use Rattle.runs.specs.Owner.{owner}
 use Rattle.common.specs.Counters.{width}
 use Rattle.runs.specs.Bytes.{mapSize, logSize}
 use Rattle.runs.proofs.Blank.{no-runs}
-use Rattle.stripe.specs.Outcomes.{restartAnswer}
+use Rattle.gilboreth.specs.Restart.{restartAnswer}
 use Rattle.promises.specs.Run.{Piece, ageOf, Covers, byteOf, Stripe, begin, Step, next, after, notes, noted, Write, writes, accepted, pieces}
 use Rattle.promises.specs.Demand3.{Among, HasWrite, Finished, Agree, Greatest, Kept, Demand3}
 use Rattle.promises.proofs.Carried.{entriesOf, Carried, carried, begin-carried, restarts}

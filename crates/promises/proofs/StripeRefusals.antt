@@ -24,7 +24,9 @@ use Rattle.runs.proofs.MapBytes.{bytes-length, bytes-back, map-back, map-back-s
 use Rattle.runs.proofs.LogBytes.{bytes-log}
 use Rattle.stripe.specs.Refusals.{place, noteRules, writeRules, restartRules, behind}
 use Rattle.stripe.specs.Stripe.{written}
-use Rattle.stripe.specs.Outcomes.{noteAnswer, noteMap, noteLog, writeAnswer, writeImage, restartAnswer, restartMap}
+use Rattle.gilboreth.specs.Note.{noteAnswer, noteMap, noteLog}
+use Rattle.gilboreth.specs.Write.{writeAnswer, writeImage}
+use Rattle.gilboreth.specs.Restart.{restartAnswer, restartMap}
 use Rattle.promises.proofs.Spaced.{spaced, spaced-length, spaced-small, spaced-sound, spaced-raised}
 
 -- From the list
@@ -32,9 +34,9 @@ pub note-listed : (m l : List ℕ) (f n x i : ℕ) → T (any (eqb (noteAnswer m
 unfolding noteAnswer
 note-listed m l f n x i = listed (noteRules (soundMapBytes m) (soundLogBytes l) (runsOf width m) (runsOf width l) f n x i)
 
-pub write-listed : (m i : List ℕ) (f : ℕ) (p : List ℕ) (x : ℕ) → T (any (eqb (writeAnswer m i f p x)) (0 ∷ 12 ∷ 14 ∷ 15 ∷ 18 ∷ []))
+pub write-listed : (m : List ℕ) (f n x i : ℕ) → T (any (eqb (writeAnswer m f n x i)) (0 ∷ 12 ∷ 14 ∷ 15 ∷ 18 ∷ []))
 unfolding writeAnswer
-write-listed m i f p x = listed (writeRules (soundMapBytes m) (runsOf width m) f (length p) x (length i))
+write-listed m f n x i = listed (writeRules (soundMapBytes m) (runsOf width m) f n x i)
 
 pub restart-listed : (m l : List ℕ) → T (any (eqb (restartAnswer m l)) (0 ∷ 12 ∷ 13 ∷ 16 ∷ []))
 unfolding restartAnswer
@@ -47,9 +49,9 @@ note-refused m l f n x i h =
     let e = ne-eqb (noteAnswer m l f n x i) 0 h in
     (ap (λ (t : Bool). cond t (mapBytes width (raise (place f n x) (runsOf width m))) m) e, ap (λ (t : Bool). cond t (appended width l (place f n x)) l) e)
 
-pub write-refused : (m i : List ℕ) (f : ℕ) (p : List ℕ) (x : ℕ) → (writeAnswer m i f p x ≡ 0 → ⊥) → writeImage m i f p x ≡ i
+pub write-refused : (m : List ℕ) (f : ℕ) (p : List ℕ) (x : ℕ) (i : List ℕ) → (writeAnswer m f (length p) x (length i) ≡ 0 → ⊥) → writeImage m f p x i ≡ i
 unfolding writeImage
-write-refused m i f p x h = ap (λ (t : Bool). cond t (written (runsOf width m) f p x i) i) (ne-eqb (writeAnswer m i f p x) 0 h)
+write-refused m f p x i h = ap (λ (t : Bool). cond t (written (runsOf width m) f p x i) i) (ne-eqb (writeAnswer m f (length p) x (length i)) 0 h)
 
 pub restart-refused : (m l : List ℕ) → (restartAnswer m l ≡ 0 → ⊥) → restartMap m l ≡ m
 unfolding restartMap
@@ -130,6 +132,6 @@ pub reaches-17 : noteAnswer map0 (full maxEntries (omega arith)) 0 1 1 1 ≡ 17
 reaches-17 = full-refused maxEntries (omega arith) refl
 
 -- 18 by a write that was not noted
-pub reaches-18 : writeAnswer map0 (0 ∷ []) 0 (1 ∷ []) 1 ≡ 18
+pub reaches-18 : writeAnswer map0 0 1 1 1 ≡ 18
 unfolding writeAnswer behind owner
 reaches-18 = rw (empty-map, no-runs (mapSize width))

@@ -19,7 +19,9 @@ use Rattle.runs.specs.Bytes.{runsOf, soundMapBytes}
 use Rattle.runs.proofs.Over.{over-in, over-before, over-after, owner-snoc}
 use Rattle.runs.proofs.Draw.{map-owner}
 use Rattle.stripe.specs.Stripe.{written}
-use Rattle.stripe.specs.Outcomes.{noteAnswer, noteLog, writeAnswer, writeImage, restartAnswer, restartMap}
+use Rattle.gilboreth.specs.Note.{noteAnswer, noteLog}
+use Rattle.gilboreth.specs.Write.{writeAnswer, writeImage}
+use Rattle.gilboreth.specs.Restart.{restartAnswer, restartMap}
 use Rattle.stripe.proofs.Accepted.{WriteFacts, write-facts}
 use Rattle.stripe.proofs.Stored.{written-length, written-in, written-out}
 use Rattle.promises.specs.Run.{Piece, ageOf, size, Covers, byteOf, Map, lost, live, Stripe, Step, note, noteCut, write, writeCut, restart, cut, noteOk, writeOk, afterNote, afterWrite, scrambled, torn, unplugged, next, notes, Write, writes}
@@ -75,7 +77,7 @@ pub data View (s s′ : Stripe) : List Piece → List Write → Type 0 where
   wrote : (p : Piece) (c : Bool) → Wrote s s′ p c → View s s′ [] (record { piece = p; whole = c } ∷ [])
 
 -- An accepted write of any bytes v in the piece's place
-module _ (m log image : List ℕ) (p : Piece) (M : IsMap (live m) log) (e : writeAnswer m image (p .first) (p .bytes) (p .number) ≡ 0) where
+module _ (m log image : List ℕ) (p : Piece) (M : IsMap (live m) log) (e : writeAnswer m (p .first) (size p) (p .number) (length image) ≡ 0) where
   F : WriteFacts (soundMapBytes m) (runsOf width m) (p .first) (size p) (p .number) (length image)
   unfolding writeAnswer
   F = write-facts (soundMapBytes m) (runsOf width m) (p .first) (size p) (p .number) (length image) e
@@ -105,8 +107,8 @@ module _ (m log image : List ℕ) (p : Piece) (M : IsMap (live m) log) (e : writ
         }
 
 -- the image that a write leaves, accepted and refused
-image-is : (m image : List ℕ) (p : Piece) (t : Bool) → eqb (writeAnswer m image (p .first) (p .bytes) (p .number)) 0 ≡ t
-    → writeImage m image (p .first) (p .bytes) (p .number) ≡ cond t (written (runsOf width m) (p .first) (p .bytes) (p .number) image) image
+image-is : (m image : List ℕ) (p : Piece) (t : Bool) → eqb (writeAnswer m (p .first) (size p) (p .number) (length image)) 0 ≡ t
+    → writeImage m (p .first) (p .bytes) (p .number) image ≡ cond t (written (runsOf width m) (p .first) (p .bytes) (p .number) image) image
 unfolding writeImage
 image-is m image p t e = ap (λ (t : Bool). cond t (written (runsOf width m) (p .first) (p .bytes) (p .number) image) image) e
 
@@ -154,16 +156,16 @@ write-view : (mp : Map) (log image : List ℕ) (p : Piece) → IsMap mp log
     → View (record { map = mp; log = log; image = image }) (afterWrite (record { map = mp; log = log; image = image }) mp p) [] (cond (writeOk (record { map = mp; log = log; image = image }) mp p) (record { piece = p; whole = true } ∷ []) [])
 unfolding afterWrite writeOk
 write-view lost log image p M = quiet refl refl
-write-view (live m) log image p M = go (eqb (writeAnswer m image (p .first) (p .bytes) (p .number)) 0) refl
+write-view (live m) log image p M = go (eqb (writeAnswer m (p .first) (size p) (p .number) (length image)) 0) refl
   where
     s : Stripe
     s = record { map = live m; log = log; image = image }
 
-    go : (t : Bool) → eqb (writeAnswer m image (p .first) (p .bytes) (p .number)) 0 ≡ t
-        → View s (record { map = live m; log = log; image = writeImage m image (p .first) (p .bytes) (p .number) }) [] (cond t (record { piece = p; whole = true } ∷ []) [])
+    go : (t : Bool) → eqb (writeAnswer m (p .first) (size p) (p .number) (length image)) 0 ≡ t
+        → View s (record { map = live m; log = log; image = writeImage m (p .first) (p .bytes) (p .number) image }) [] (cond t (record { piece = p; whole = true } ∷ []) [])
     go true e =
         subst (λ (i : List ℕ). View s (record { map = live m; log = log; image = i }) [] (record { piece = p; whole = true } ∷ [])) (sym (image-is m image p true e))
-        (wrote p true (stored m log image p M (eqb-true (writeAnswer m image (p .first) (p .bytes) (p .number)) 0 e) (p .bytes) refl (live m) true (λ _. refl)))
+        (wrote p true (stored m log image p M (eqb-true (writeAnswer m (p .first) (size p) (p .number) (length image)) 0 e) (p .bytes) refl (live m) true (λ _. refl)))
     go false e = quiet (image-is m image p false e) refl
 
 torn-view : (mp : Map) (log image : List ℕ) (junk : ℕ → ℕ) (p : Piece) → IsMap mp log
@@ -171,15 +173,15 @@ torn-view : (mp : Map) (log image : List ℕ) (junk : ℕ → ℕ) (p : Piece) �
     (cond (writeOk (record { map = mp; log = log; image = image }) mp p) (record { piece = p; whole = false } ∷ []) [])
 unfolding torn writeOk
 torn-view lost log image junk p M = quiet refl refl
-torn-view (live m) log image junk p M = go (eqb (writeAnswer m image (p .first) (p .bytes) (p .number)) 0) refl
+torn-view (live m) log image junk p M = go (eqb (writeAnswer m (p .first) (size p) (p .number) (length image)) 0) refl
   where
     s : Stripe
     s = record { map = live m; log = log; image = image }
 
-    go : (t : Bool) → eqb (writeAnswer m image (p .first) (p .bytes) (p .number)) 0 ≡ t
+    go : (t : Bool) → eqb (writeAnswer m (p .first) (size p) (p .number) (length image)) 0 ≡ t
         → View s (unplugged log (cond t (written (runsOf width m) (p .first) (tab (size p) junk) (p .number) image) image)) [] (cond t (record { piece = p; whole = false } ∷ []) [])
     go true e =
-        wrote p false (stored m log image p M (eqb-true (writeAnswer m image (p .first) (p .bytes) (p .number)) 0 e) (tab (size p) junk) (length-tab (size p) junk) lost false (λ z. never z))
+        wrote p false (stored m log image p M (eqb-true (writeAnswer m (p .first) (size p) (p .number) (length image)) 0 e) (tab (size p) junk) (length-tab (size p) junk) lost false (λ z. never z))
     go false e = quiet refl refl
 
 pub view : (s : Stripe) (e : Step) → Carried s → View s (next s e) (notes s e) (writes s e)

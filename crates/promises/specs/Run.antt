@@ -8,7 +8,9 @@ use Rattle.common.specs.Counters.{width}
 use Rattle.xdr.specs.Tab.{tab}
 use Rattle.runs.specs.Bytes.{runsOf, runsEnd, mapSize, logSize}
 use Rattle.stripe.specs.Stripe.{written}
-use Rattle.stripe.specs.Outcomes.{noteAnswer, noteMap, noteLog, writeAnswer, writeImage, restartAnswer, restartMap}
+use Rattle.gilboreth.specs.Note.{noteAnswer, noteMap, noteLog}
+use Rattle.gilboreth.specs.Write.{writeAnswer, writeImage}
+use Rattle.gilboreth.specs.Restart.{restartAnswer, restartMap}
 
 -- A piece: its first byte, its bytes and its number. Two pieces with all three alike are one piece
 pub record Piece : Type 0 where
@@ -61,7 +63,7 @@ noteOk s (live m) p = eqb (noteAnswer m (s .log) (p .first) (size p) (p .number)
 
 unfoldable pub writeOk : Stripe → Map → Piece → Bool
 writeOk s lost p = false
-writeOk s (live m) p = eqb (writeAnswer m (s .image) (p .first) (p .bytes) (p .number)) 0
+writeOk s (live m) p = eqb (writeAnswer m (p .first) (size p) (p .number) (length (s .image))) 0
 
 -- What each call leaves when it runs to its end
 unfoldable pub afterNote : Stripe → Map → Piece → Stripe
@@ -76,7 +78,7 @@ afterNote s (live m) p =
 unfoldable pub afterWrite : Stripe → Map → Piece → Stripe
 afterWrite s lost p = s
 afterWrite s (live m) p =
-    record { map = live m; log = s .log; image = writeImage m (s .image) (p .first) (p .bytes) (p .number) }
+    record { map = live m; log = s .log; image = writeImage m (p .first) (p .bytes) (p .number) (s .image) }
 
 abbrev pub afterRestart : Stripe → List ℕ → Stripe
 afterRestart s buffer =

@@ -11,3 +11,4 @@ pub mod Blank
 pub mod MapBytes
 pub mod LogBytes
 pub mod OneByOne
+pub mod Stretch

@@ -3,3 +3,4 @@ pub mod Fields
 pub mod Tabs
 pub mod Elements
 pub mod Arrays
+pub mod Appends

@@ -1,0 +1,89 @@
+-- A map raised by a piece: the runs that are left say what the map says from x on, so each run, and the gap before it, is drawn by itself.
+use Prim.Native.Nat.{ℕ, suc, _+_, _≤_, min, max}
+use native.Mathlib.Omega.{arith}
+use mathlib.Core.Path.{_≡_, refl, _∙_, subst}
+use mathlib.Core.Bool.{true}
+use mathlib.Core.List.{List, [], _∷_}
+use Rattle.common.specs.Ranges.{eof}
+use Rattle.runs.specs.declared.Run.{Run}
+use Rattle.runs.specs.Owner.{ageOf, owner}
+use Rattle.runs.specs.Map.{raise}
+use Rattle.runs.specs.Sound.{allValid, soundMap}
+use Rattle.runs.proofs.Over.{over-before, over-in, over-after, owner-after}
+use Rattle.runs.proofs.Canon.{Canon, head, rest, canon-before}
+use Rattle.runs.proofs.Valid.{Valid, valid-cons, beyond}
+use Rattle.runs.proofs.Sound.{sound-canon}
+use Rattle.runs.proofs.Stretch.{map-drawn}
+use Rattle.pen.specs.declared.Pen.{Pen}
+use Rattle.pen.specs.Drawing.{Drawn, Flushed, Went, one, Stored}
+use Rattle.pen.proofs.Steps.{flushed}
+use Rattle.maps.specs.Reach.{under}
+
+-- two steps to the right
+further : (x x1 x2 q1 q2 : ℕ) → x1 ≡ max x q1 → x2 ≡ max x1 q2 → q1 ≤ q2 → x2 ≡ max x q2
+further x x1 x2 q1 q2 e1 e2 h = omega arith
+
+-- before, inside and after the piece
+pub span-went :
+    (p p1 p2 p3 : Pen) (o o1 o2 o3 : List ℕ) (q m q1 q2 a : ℕ) (piece : Run) → Valid piece → q1 ≡ min q (piece .first) → q2 ≡ min q (piece .last + 1) → a ≡ max (ageOf piece) m
+    → Went p q1 (one m) o o1 p1 → Went p1 q2 (one a) o1 o2 p2 → Went p2 q (one m) o2 o3 p3 → Went p q (under piece m) o o3 p3
+span-went p p1 p2 p3 o o1 o2 o3 q m q1 q2 a piece v e1 e2 e3 w1 w2 w3 =
+    let a1 = w1 .at in
+    let a2 = w2 .at in
+    let a3 = w3 .at in
+    record {
+      at = omega arith;
+      fine = w3 .fine;
+      keeps = λ g old s d.
+          w3 .keeps g old (λ b i j. s b (omega arith) j ∙ omega (arith, over-after piece b (omega arith)))
+          (w2 .keeps g old (λ b i j. s b (omega arith) (omega arith) ∙ omega (arith, over-in piece b (omega arith) (omega arith)))
+          (w1 .keeps g old (λ b i j. s b i (omega arith) ∙ omega (arith, over-before piece b (omega arith))) d));
+    }
+
+-- the gap before a run, and the run
+pub pass-went :
+    (p p1 p2 : Pen) (o o1 o2 : List ℕ) (r piece : Run) → Valid r → Went p (r .first) (under piece 0) o o1 p1 → Went p1 (r .last + 1) (under piece (ageOf r)) o1 o2 p2
+    → Went p (r .last + 1) (owner (piece ∷ r ∷ [])) o o2 p2
+unfolding owner
+pass-went p p1 p2 o o1 o2 r piece v w1 w2 =
+    let a1 = w1 .at in
+    record {
+      at = further (p .x) (p1 .x) (p2 .x) (r .first) (r .last + 1) a1 (w2 .at) (omega arith);
+      fine = w2 .fine;
+      keeps = λ g old s d.
+          w2 .keeps g old (λ b i j. s b (omega arith) j ∙ omega (arith, over-in r b (omega arith) (omega arith)))
+          (w1 .keeps g old (λ b i j. s b i (omega arith) ∙ omega (arith, over-before r b (omega arith))) d);
+    }
+
+-- the runs that are left say what the map says from x on
+pub record Left (rs left : List Run) (x : ℕ) : Type 0 where
+  pub age : ℕ
+  pub canon : Canon x age left
+  pub agree : (b : ℕ) → x ≤ b → owner rs b ≡ owner left b
+
+pub left-all : (rs : List Run) → soundMap rs ≡ true → Left rs rs 0
+left-all rs e = record { age = 0; canon = sound-canon rs e; agree = λ b h. refl }
+
+module _ (piece : Run) (rs : List Run) (p p1 : Pen) (old o o1 : List ℕ) where
+  pub raise-more : (r : Run) (left : List Run) → Went p (r .last + 1) (owner (piece ∷ r ∷ [])) o o1 p1 → Left rs (r ∷ left) (p .x) → Drawn (owner (piece ∷ rs)) old o p
+      → Left rs left (p1 .x) × Drawn (owner (piece ∷ rs)) old o1 p1
+  unfolding owner
+  raise-more r left w l d =
+      let n = head (l .canon) in
+      let a = w .at in
+      let e : suc (r .last) ≡ p1 .x = omega arith in (
+        record {
+          age = ageOf r;
+          canon = subst (λ (x : ℕ). Canon x (ageOf r) left) e (rest (l .canon));
+          agree = λ b h. l .agree b (omega arith) ∙ owner-after r left b (omega arith);
+        },
+        w .keeps (owner (piece ∷ rs)) old (λ b i j. omega (arith, l .agree b i, canon-before b (rest (l .canon)) (omega arith))) d,
+      )
+
+  pub raise-done : (o2 : List ℕ) (k : ℕ) → Valid piece → allValid rs ≡ true → Went p (suc eof) (under piece 0) o o1 p1 → Flushed p1 o1 o2 k → Left rs [] (p .x) → Drawn (owner (piece ∷ rs)) old o p
+      → Stored (raise piece rs) old o2 k
+  unfolding owner
+  raise-done o2 k v e w f l d =
+      let a = w .at in
+      rw (map-drawn (piece ∷ rs) (p1 .x) (λ b h. beyond (piece ∷ rs) b (valid-cons piece rs v e) (omega arith)))
+      (flushed p1 (w .fine) (w .keeps (owner (piece ∷ rs)) old (λ b i j. omega (arith, l .agree b i)) d) f)

@@ -1,0 +1,150 @@
+// Draws the map of a map and a piece, and the map of a log.
+use pen::Pen;
+use runs::Run;
+ghost use mathlib.Core.Path.{_≡_};
+ghost use mathlib.Core.Bool.{true};
+ghost use mathlib.Core.List.{[], _∷_};
+ghost use Prim.Native.Nat.{_+_, _≤_, min, max};
+ghost use lib.ListN.{length};
+ghost use Rattle.common.specs.Counters.{width};
+ghost use Rattle.common.specs.Ranges.{eof};
+ghost use Rattle.runs.specs.Owner.{owner};
+ghost use Rattle.runs.specs.Map.{raise, mapOf};
+ghost use Rattle.runs.specs.Bytes.{mapSize, runsOf, soundMapBytes, soundLogBytes};
+ghost use Rattle.runs.proofs.Valid.{Valid};
+ghost use Rattle.pen.specs.Drawing.{Fine, Went, Stored};
+ghost use Rattle.maps.specs.Reach.{under, Reach, Seen};
+
+// Takes the lesser of two numbers.
+fn lesser(a: u64, b: u64) -> u64
+    ensures { λ r. ⌜ r ≡ min a b ⌝ }
+{
+    if a < b {
+        return a;
+    }
+    b
+}
+
+// Takes the greater of two numbers.
+fn greater(a: u64, b: u64) -> u64
+    ensures { λ r. ⌜ r ≡ max a b ⌝ }
+{
+    if a < b {
+        return b;
+    }
+    a
+}
+
+// Draws the age m up to before q, raised to the piece's where that is greater.
+fn span(out: &mut [u8], p: Pen, q: u64, m: u64, piece: Run) -> Pen
+    requires { ⌜ (length (now out) ≡ mapSize width) × Fine p × Valid piece ⌝ }
+    ensures { λ r. ⌜ Went p q (under piece m) (now (out .entry)) (now (out .exit)) r ⌝ }
+{
+    let before = pen::push(out, p, lesser(q, piece.first), m);
+    let inside = pen::push(
+        out,
+        before,
+        lesser(q, piece.last + 1),
+        greater(piece.number.0, m),
+    );
+    pen::push(out, inside, q, m)
+}
+
+// Draws up to the end of a run of the map, raised by the piece.
+fn pass(out: &mut [u8], p: Pen, r: Run, piece: Run) -> Pen
+    requires { ⌜ (length (now out) ≡ mapSize width) × Fine p × Valid r × Valid piece ⌝ }
+    ensures { λ t. ⌜ Went p (r .last + 1) (owner (piece ∷ r ∷ [])) (now (out .entry)) (now (out .exit)) t ⌝ }
+{
+    let gap = span(out, p, r.first, 0, piece);
+    span(out, gap, r.last + 1, r.number.0, piece)
+}
+
+// Draws a sound map raised by a piece, and counts its runs.
+pub fn raised(out: &mut [u8], map: &[u8], piece: Run) -> usize
+    requires { ⌜ (length (now out) ≡ mapSize width) × (soundMapBytes (now map) ≡ true) × Valid piece ⌝ }
+    ensures { λ k. ⌜ Stored (raise piece (runsOf width (now (map .entry)))) (now (out .entry)) (now (out .exit)) k ⌝ }
+{
+    let n = runbytes::count(map);
+    let mut p = pen::start();
+    let mut i: usize = 0;
+    while i < n {
+        p = pass(out, p, runbytes::run_at(map, i), piece);
+        i += 1;
+    }
+    p = span(out, p, runbytes::EOF + 1, 0, piece);
+    pen::flush(out, p)
+}
+
+// From a byte on, the age is at least `age` before `end`, and at most `age` before `stop`.
+struct View {
+    age: u64,
+    end: u64,
+    stop: u64,
+}
+
+// Sees one entry more from the byte x: it covers x, goes on where the age would end, or stops it.
+fn seen(x: u64, r: Run, v: View) -> View
+    requires { ⌜ Valid r ⌝ }
+    ensures { λ w. ⌜ Seen x r v w ⌝ }
+{
+    if r.number.0 < v.age {
+        return v;
+    }
+    if r.number.0 == v.age {
+        if (r.first <= v.end) & (v.end <= r.last) {
+            return View {
+                age: v.age,
+                end: r.last + 1,
+                stop: v.stop,
+            };
+        }
+        return v;
+    }
+    if x < r.first {
+        return View {
+            age: v.age,
+            end: v.end,
+            stop: lesser(v.stop, r.first),
+        };
+    }
+    if x <= r.last {
+        return View {
+            age: r.number.0,
+            end: r.last + 1,
+            stop: v.stop,
+        };
+    }
+    v
+}
+
+// Looks from the byte x over every entry of a sound log.
+fn look(log: &[u8], x: u64) -> View
+    requires { ⌜ (soundLogBytes (now log) ≡ true) × (x ≤ eof) ⌝ }
+    ensures { λ v. ⌜ Reach (owner (runsOf width (now (log .entry)))) x v ⌝ }
+{
+    let n = runbytes::count(log);
+    let mut v = View {
+        age: 0,
+        end: runbytes::EOF + 1,
+        stop: runbytes::EOF + 1,
+    };
+    let mut i: usize = 0;
+    while i < n {
+        v = seen(x, runbytes::run_at(log, i), v);
+        i += 1;
+    }
+    v
+}
+
+// Draws the map of a sound log, and counts its runs.
+pub fn rebuilt(out: &mut [u8], log: &[u8]) -> usize
+    requires { ⌜ (length (now out) ≡ mapSize width) × (soundLogBytes (now log) ≡ true) ⌝ }
+    ensures { λ k. ⌜ Stored (mapOf (runsOf width (now (log .entry)))) (now (out .entry)) (now (out .exit)) k ⌝ }
+{
+    let mut p = pen::start();
+    while p.x <= runbytes::EOF {
+        let v = look(log, p.x);
+        p = pen::push(out, p, lesser(v.end, v.stop), v.age);
+    }
+    pen::flush(out, p)
+}

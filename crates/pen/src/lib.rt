@@ -1,0 +1,77 @@
+// A map drawn from left to right into a scratch buffer: stretches that touch at one age are joined, and age 0 is no run.
+use common::Number;
+use runs::Run;
+ghost use mathlib.Core.Path.{_≡_};
+ghost use lib.ListN.{length};
+ghost use Rattle.common.specs.Counters.{width};
+ghost use Rattle.runs.specs.Bytes.{mapSize};
+ghost use Rattle.pen.specs.Drawing.{fresh, Fine, Flushed, Went, one};
+
+// k runs are stored, or counted where they do not fit; from cur up to before x the age is tip.
+pub struct Pen {
+    pub k: usize,
+    pub cur: u64,
+    pub tip: u64,
+    pub x: u64,
+}
+
+// Starts at byte 0 with nothing drawn.
+pub fn start() -> Pen
+    ensures { λ p. ⌜ p ≡ fresh ⌝ }
+{
+    Pen {
+        k: 0,
+        cur: 0,
+        tip: 0,
+        x: 0,
+    }
+}
+
+// Stores the pending run if it fits, and counts it.
+pub fn flush(out: &mut [u8], p: Pen) -> usize
+    requires { ⌜ (length (now out) ≡ mapSize width) × Fine p ⌝ }
+    ensures { λ k. ⌜ Flushed p (now (out .entry)) (now (out .exit)) k ⌝ }
+{
+    if p.tip == 0 {
+        return p.k;
+    }
+    if runbytes::MAX_RUNS <= p.k {
+        return p.k + 1;
+    }
+    let last = p.x - 1;
+    runbytes::put_run(
+        out,
+        p.k,
+        Run {
+            first: p.cur,
+            last,
+            number: Number(p.tip),
+        },
+    );
+    p.k + 1
+}
+
+// Draws the age a up to before q.
+pub fn push(out: &mut [u8], p: Pen, q: u64, a: u64) -> Pen
+    requires { ⌜ (length (now out) ≡ mapSize width) × Fine p ⌝ }
+    ensures { λ r. ⌜ Went p q (one a) (now (out .entry)) (now (out .exit)) r ⌝ }
+{
+    if q <= p.x {
+        return p;
+    }
+    if a == p.tip {
+        return Pen {
+            k: p.k,
+            cur: p.cur,
+            tip: a,
+            x: q,
+        };
+    }
+    let k = flush(out, p);
+    Pen {
+        k,
+        cur: p.x,
+        tip: a,
+        x: q,
+    }
+}
