@@ -5,3 +5,7 @@ pub mod Order
 pub mod Refusals
 pub mod Rests
 pub mod Firsts
+pub mod Rows
+pub mod Scans
+pub mod Lone
+pub mod Partly

@@ -41,13 +41,11 @@ arrayAt w = w + size (lastsLayout w)
 abbrev pub tableSize : ℕ → ℕ
 tableSize w = arrayAt w + arraySize maxRecords (lockLayout w)
 
-unfoldable pub tableOf : ℕ → List ℕ → Table
-tableOf w t =
-    record {
-      issued = be w t 0;
-      lasts = fields (lastsLayout w) t w 0;
-      locks = map lockOf (array (lockLayout w) t (arrayAt w));
-    }
+abbrev pub locksOf : ℕ → List ℕ → List Lock
+locksOf w t = map lockOf (array (lockLayout w) t (arrayAt w))
+
+abbrev pub tableOf : ℕ → List ℕ → Table
+tableOf w t = record { issued = be w t 0; lasts = fields (lastsLayout w) t w 0; locks = locksOf w t }
 
 -- ".. zero bytes after it"
 abbrev pub recordsEnd : ℕ → List ℕ → ℕ

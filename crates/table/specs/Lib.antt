@@ -1,3 +1,4 @@
 pub mod Table
 pub mod Sound
 pub mod Bytes
+pub mod Places

@@ -2,9 +2,9 @@
 use mathlib.Core.Path.{_≡_, refl, ap, ap₂}
 use mathlib.Core.List.{List, [], _∷_, _++_, map}
 use Prim.Native.Nat.{ℕ, zero, suc, _<_}
-use native.Mathlib.Nat.{le-of-suc-le-suc, not-suc-le-zero}
+use native.Mathlib.Nat.{le-of-suc-le-suc, not-suc-le-zero, suc-inj}
 use native.Mathlib.Omega.{arith}
-use lib.ListN.{length, getD}
+use lib.ListN.{length, getD, set}
 use Rattle.xdr.specs.Tab.{tab}
 
 pub length-tab : {A : Type 0} (n : ℕ) (f : ℕ → A) → length (tab n f) ≡ n
@@ -34,7 +34,16 @@ unfolding tab
 map-tab g zero f = refl
 map-tab g (suc n) f = ap (λ l. g (f 0) ∷ l) (map-tab g n (λ k. f (suc k)))
 
--- one more at the end
+-- a rule that changed at i alone
+pub tab-set : {A : Type 0} (n : ℕ) (f g : ℕ → A) (i : ℕ) (a : A) → g i ≡ a → ((k : ℕ) → (k ≡ i → ⊥) → g k ≡ f k) → i < n → tab n g ≡ set (tab n f) i a
+unfolding tab
+tab-set zero f g i a e h p = absurd (not-suc-le-zero p)
+tab-set (suc n) f g zero a e h p = ap₂ (λ x l. x ∷ l) e (tab-ext n (λ k. g (suc k)) (λ k. f (suc k)) (λ k q. h (suc k) (omega arith)))
+tab-set (suc n) f g (suc i) a e h p =
+    ap₂ (λ x l. x ∷ l) (h 0 (omega arith))
+    (tab-set n (λ k. f (suc k)) (λ k. g (suc k)) i a e (λ k q. h (suc k) (λ w. q (suc-inj w))) (le-of-suc-le-suc p))
+
+-- one element more
 pub tab-snoc : {A : Type 0} (n : ℕ) (f : ℕ → A) → tab (suc n) f ≡ tab n f ++ (f n ∷ [])
 unfolding tab
 tab-snoc zero f = refl

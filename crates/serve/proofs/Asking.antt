@@ -1,0 +1,77 @@
+-- A request that is not refused: what its rows passed says that the new record fits, and the stores make the change of the rules.
+use Prim.Native.Nat.{ℕ, _+_, _^_, _≤_, _<_}
+use native.Mathlib.Omega.{arith}
+use mathlib.Core.List.{List, [], _∷_, _++_}
+use mathlib.Core.Bool.{not, _&&_}
+use mathlib.Core.Path.{_≡_, refl, sym, ap, subst, _∙_}
+use lib.Dec.{T, leb, ltb, eqb, leb→le, nleb→lt, nltb→le}
+use lib.ListN.{length}
+use Rattle.common.specs.Counters.{width, highest}
+use Rattle.common.specs.Ranges.{range}
+use Rattle.common.specs.Refusals.{firstHit}
+use Rattle.common.proofs.Bools.{and-l, and-r, undo}
+use Rattle.common.proofs.Order.{eq→eqb}
+use Rattle.common.proofs.Refusals.{unbroken}
+use Rattle.modes.specs.Codes.{knownMode}
+use Rattle.table.specs.Table.{Table, maxClient, maxStripe, maxRecords}
+use Rattle.table.specs.Bytes.{locksOf, tableOf}
+use Rattle.table.specs.Places.{FitsTable, Holds, withIssued, withLocks}
+use Rattle.table.proofs.Records.{locks-length}
+use Rattle.locks.specs.declared.Message.the-variants.{Request}
+use Rattle.locks.specs.Refusals.{requestRules, rules, refusal}
+use Rattle.locks.specs.Serve.{asking, change, answered, serve}
+use Rattle.settle.specs.Posts.{Good}
+use Rattle.serve.specs.declared.Answer.{Answer}
+use Rattle.serve.specs.Serves.{Leaves, Ends}
+use Rattle.serve.proofs.Ending.{serve-refused, changed-good, changed-served}
+
+-- k is what the rows answer
+module _ (n c s m f l k : ℕ) (t : List ℕ) (p : k ≡ firstHit (requestRules (tableOf width t) c s m f l)) where
+  rows : k ≡ refusal (tableOf width t) (Request c s m f l)
+  unfolding rules
+  rows = p
+
+  pub request-refused : (b : List ℕ) (r : Answer) → (k ≡ 0 → ⊥) → r ≡ record { refusal = k; handle = 0; events = 0 } → Leaves (serve (tableOf width t) (Request c s m f l)) t b r t b
+  request-refused b r z q = serve-refused (tableOf width t) (Request c s m f l) t b r k rows z q
+
+  -- it answers 0, and e handles are issued
+  module _ (G : Good n t) (z : k ≡ 0) (e : ℕ) (q : e ≡ tableOf width t .issued) where
+    pub record Passed : Type 0 where
+      pub client : c ≤ 63
+      pub stripe : s ≤ 15
+      pub mode : m ≤ 4
+      pub handle : e + 1 < 2 ^ 32
+      pub room : n < 256
+
+    pub passed : Passed
+    passed =
+        let u = unbroken (requestRules (tableOf width t) c s m f l) tt (eq→eqb (firstHit (requestRules (tableOf width t) c s m f l)) 0 (sym p ∙ z)) in
+        let w : T (knownMode m) = undo (knownMode m) (search (and-l, and-r) depth 8) in
+        let i = nleb→lt (highest width) (tableOf width t .issued) (search (and-l, and-r) depth 8) in
+        let r = nleb→lt maxRecords (length (locksOf width t)) (search (and-l, and-r) depth 8) in
+        let d = G .shape .count in
+        record {
+          client = nltb→le maxClient c (search (and-l));
+          stripe = nltb→le maxStripe s (search (and-l, and-r));
+          mode = search (and-r, leb→le);
+          handle = omega arith;
+          room = omega (arith, locks-length t);
+        }
+
+    pub request-fits : FitsTable (asking (e + 1) c s m f l)
+    request-fits = let g = passed in record { handle = omega arith; client = omega arith; stripe = omega arith; mode = omega arith; state = omega arith; number = omega arith }
+
+    -- the handle is issued, which leaves u; the record is added, which leaves v
+    module _ (u v : List ℕ) (H : Holds n (withIssued (tableOf width t) (e + 1)) u) (K : Holds (n + 1) (withLocks (tableOf width u) (locksOf width u ++ (asking (e + 1) c s m f l ∷ []))) v) where
+      changed : Holds (n + 1) (change (tableOf width t) (Request c s m f l)) v
+      unfolding change
+      changed =
+          subst (λ (j : ℕ). Holds (n + 1) (withLocks (withIssued (tableOf width t) (j + 1)) (locksOf width t ++ (asking (j + 1) c s m f l ∷ []))) v) q
+          (subst (λ (X : Table). Holds (n + 1) (withLocks X (X .locks ++ (asking (e + 1) c s m f l ∷ []))) v) (H .says) K)
+
+      pub request-good : Good (n + 1) v
+      request-good = changed-good (Request c s m f l) n (n + 1) t v G (sym rows ∙ z) changed
+
+      pub request-served : (r : Answer) (b w d : List ℕ) → Ends (n + 1) (tableOf width v) (e + 1) b r w d → Leaves (serve (tableOf width t) (Request c s m f l)) t b r w d
+      unfolding answered
+      request-served r b w d E = changed-served (Request c s m f l) n (n + 1) t v G (sym rows ∙ z) changed (e + 1) r b w d (ap (λ (j : ℕ). j + 1) q) E

@@ -1,0 +1,263 @@
+// One message on the bytes of a sound table: its refusals, its own change, and the settling.
+use common::Handle;
+use common::Number;
+use locks::Message;
+use table::Lock;
+ghost use mathlib.Core.Path.{_≡_};
+ghost use Prim.Native.Nat.{_≤_, _<_};
+ghost use lib.ListN.{length};
+ghost use Rattle.common.specs.Counters.{width};
+ghost use Rattle.common.specs.Refusals.{firstHit};
+ghost use Rattle.table.specs.Bytes.{locksOf, tableOf};
+ghost use Rattle.table.specs.Places.{countOf, Shape};
+ghost use Rattle.locks.specs.declared.Message.the-variants.{Request, Acknowledge, Downgrade, Release};
+ghost use Rattle.locks.specs.Refusals.{requestRules};
+ghost use Rattle.locks.specs.Serve.{serve, downgraded};
+ghost use Rattle.locks.specs.Events.{eventsSize};
+ghost use Rattle.settle.specs.Posts.{Good, First};
+ghost use Rattle.serve.specs.Serves.{Leaves, Ends, has, placeRules};
+
+// The highest client, stripe and count of handles, and how many records a table has at most.
+const MAX_CLIENT: u64 = 63;
+
+const MAX_STRIPE: u64 = 15;
+
+const MAX_ISSUED: u64 = 4294967295;
+
+const MAX_RECORDS: usize = 256;
+
+// The modes that the tests name, and the state that an acknowledgement wants.
+const PR: u64 = 1;
+
+const NBW: u64 = 2;
+
+const BW: u64 = 3;
+
+const PW: u64 = 4;
+
+const ASKED: u64 = 2;
+
+// What a call answers: its refusal or 0, the handle that it made or named, and how many events it wrote.
+#[repr(C)]
+pub struct Answer {
+    pub refusal: u64,
+    pub handle: u64,
+    pub events: u64,
+}
+
+// Answers a refusal.
+pub fn refused(k: u64) -> Answer
+    ensures { λ r. ⌜ r ≡ record { refusal = k; handle = 0; events = 0 } ⌝ }
+{
+    Answer {
+        refusal: k,
+        handle: 0,
+        events: 0,
+    }
+}
+
+// Settles the changed table and answers the handle h.
+fn finish(t: &mut [u8], b: &mut [u8], n: usize, h: u64) -> Answer
+    requires { ⌜ Good n (now t) × (eventsSize width ≤ length (now b)) ⌝ }
+    ensures { λ r. ⌜ Ends n (tableOf width (now (t .entry))) h (now (b .entry)) r (now (t .exit)) (now (b .exit)) ⌝ }
+{
+    let k = settle::settle(t, b, n);
+    Answer {
+        refusal: 0,
+        handle: h,
+        events: k as u64,
+    }
+}
+
+// Judges a request by 3 to 8.
+fn request_refusal(
+    t: &[u8],
+    n: usize,
+    client: u64,
+    stripe: u64,
+    mode: u64,
+    first: u64,
+    last: u64,
+) -> u64
+    requires { ⌜ Shape n (now t) ⌝ }
+    ensures { λ r. ⌜ r ≡ firstHit (requestRules (tableOf width (now (t .entry))) client stripe mode first last) ⌝ }
+{
+    if MAX_CLIENT < client {
+        return 3;
+    }
+    if MAX_STRIPE < stripe {
+        return 4;
+    }
+    if !((PR <= mode) & (mode <= PW)) {
+        return 5;
+    }
+    if !((first <= last) & (last <= settle::EOF)) {
+        return 6;
+    }
+    if MAX_ISSUED <= table::issued(t) {
+        return 7;
+    }
+    if MAX_RECORDS <= n {
+        return 8;
+    }
+    0
+}
+
+// Adds a waiting record for a request, and settles.
+fn request(
+    t: &mut [u8],
+    b: &mut [u8],
+    n: usize,
+    client: u64,
+    stripe: u64,
+    mode: u64,
+    first: u64,
+    last: u64,
+) -> Answer
+    requires { ⌜ Good n (now t) × (eventsSize width ≤ length (now b)) ⌝ }
+    ensures { λ r. ⌜ Leaves (serve (tableOf width (now (t .entry))) (Request client stripe mode first last)) (now (t .entry)) (now (b .entry)) r (now (t .exit)) (now (b .exit)) ⌝ }
+{
+    let k = request_refusal(t, n, client, stripe, mode, first, last);
+    if k != 0 {
+        return refused(k);
+    }
+    let h = table::issued(t) + 1;
+    let l = Lock {
+        handle: Handle(h),
+        client: client,
+        stripe: stripe,
+        mode: mode,
+        state: 0,
+        number: Number(0),
+        first: first,
+        last: last,
+    };
+    table::put_issued(t, n, h);
+    table::add(t, n, l);
+    finish(t, b, n + 1, h)
+}
+
+// Finds the place of the record with the handle h.
+fn find(t: &[u8], n: usize, h: u64) -> usize
+    requires { ⌜ Shape n (now t) ⌝ }
+    ensures { λ r. ⌜ First (has h) n (locksOf width (now (t .entry))) r ⌝ }
+{
+    for i in 0..n {
+        let r = table::lock_at(t, i);
+        if r.handle.0 == h {
+            return i;
+        }
+    }
+    n
+}
+
+// Judges a client's message on the record at place i by 3, 9 and 10.
+fn place_refusal(t: &[u8], n: usize, i: usize, client: u64) -> u64
+    requires { ⌜ Shape n (now t) ⌝ }
+    ensures { λ r. ⌜ r ≡ firstHit (placeRules (tableOf width (now (t .entry))) n i client) ⌝ }
+{
+    if MAX_CLIENT < client {
+        return 3;
+    }
+    if n <= i {
+        return 9;
+    }
+    let l = table::lock_at(t, i);
+    if l.client != client {
+        return 10;
+    }
+    0
+}
+
+// Makes an asked record canceling, and settles.
+fn acknowledge(t: &mut [u8], b: &mut [u8], n: usize, client: u64, handle: u64) -> Answer
+    requires { ⌜ Good n (now t) × (eventsSize width ≤ length (now b)) ⌝ }
+    ensures { λ r. ⌜ Leaves (serve (tableOf width (now (t .entry))) (Acknowledge client handle)) (now (t .entry)) (now (b .entry)) r (now (t .exit)) (now (b .exit)) ⌝ }
+{
+    let i = find(t, n, handle);
+    let k = place_refusal(t, n, i, client);
+    if k != 0 {
+        return refused(k);
+    }
+    let l = table::lock_at(t, i);
+    if l.state != ASKED {
+        return refused(11);
+    }
+    table::put_lock(
+        t,
+        n,
+        i,
+        settle::given(l, settle::CANCELING, l.number.0, l.last),
+    );
+    finish(t, b, n, handle)
+}
+
+// Makes of l the same record in mode NBW.
+fn downgraded(l: Lock) -> Lock
+    ensures { λ r. ⌜ r ≡ downgraded l ⌝ }
+{
+    let h = l.handle;
+    let v = l.number;
+    Lock {
+        handle: h,
+        client: l.client,
+        stripe: l.stripe,
+        mode: NBW,
+        state: l.state,
+        number: v,
+        first: l.first,
+        last: l.last,
+    }
+}
+
+// Makes a canceling BW or PW record an NBW record, and settles.
+fn downgrade(t: &mut [u8], b: &mut [u8], n: usize, client: u64, handle: u64) -> Answer
+    requires { ⌜ Good n (now t) × (eventsSize width ≤ length (now b)) ⌝ }
+    ensures { λ r. ⌜ Leaves (serve (tableOf width (now (t .entry))) (Downgrade client handle)) (now (t .entry)) (now (b .entry)) r (now (t .exit)) (now (b .exit)) ⌝ }
+{
+    let i = find(t, n, handle);
+    let k = place_refusal(t, n, i, client);
+    if k != 0 {
+        return refused(k);
+    }
+    let l = table::lock_at(t, i);
+    if !((l.state == settle::CANCELING) & ((BW <= l.mode) & (l.mode <= PW))) {
+        return refused(11);
+    }
+    table::put_lock(t, n, i, downgraded(l));
+    finish(t, b, n, handle)
+}
+
+// Removes a record, or withdraws a request, and settles.
+fn release(t: &mut [u8], b: &mut [u8], n: usize, client: u64, handle: u64) -> Answer
+    requires { ⌜ Good n (now t) × (eventsSize width ≤ length (now b)) ⌝ }
+    ensures { λ r. ⌜ Leaves (serve (tableOf width (now (t .entry))) (Release client handle)) (now (t .entry)) (now (b .entry)) r (now (t .exit)) (now (b .exit)) ⌝ }
+{
+    let i = find(t, n, handle);
+    let k = place_refusal(t, n, i, client);
+    if k != 0 {
+        return refused(k);
+    }
+    table::remove(t, n, i);
+    finish(t, b, n - 1, handle)
+}
+
+// Serves one message.
+pub fn serve(t: &mut [u8], b: &mut [u8], m: Message) -> Answer
+    requires { ⌜ Good (countOf (now t)) (now t) × (eventsSize width ≤ length (now b)) ⌝ }
+    ensures { λ r. ⌜ Leaves (serve (tableOf width (now (t .entry))) m) (now (t .entry)) (now (b .entry)) r (now (t .exit)) (now (b .exit)) ⌝ }
+{
+    let n = table::count(t);
+    match m {
+        Message::Request {
+            client,
+            stripe,
+            mode,
+            first,
+            last,
+        } => request(t, b, n, client, stripe, mode, first, last),
+        Message::Acknowledge { client, handle } => acknowledge(t, b, n, client, handle),
+        Message::Downgrade { client, handle } => downgrade(t, b, n, client, handle),
+        Message::Release { client, handle } => release(t, b, n, client, handle),
+    }
+}

@@ -1,0 +1,132 @@
+-- The grant of a request that is due: the table stays sound after it, so what is stored fits, and the stores make the turn of the rules.
+use Prim.Native.Nat.{ℕ, suc, _+_, _^_, _<_}
+use native.Mathlib.Omega.{arith}
+use mathlib.Core.Bool.{Bool, true, false, not, _&&_, cond}
+use mathlib.Core.List.{List, [], _∷_, _++_}
+use mathlib.Core.Logic.{⊎-elim}
+use mathlib.Core.Path.{_≡_, refl, sym, ap, ap₂, subst, _∙_}
+use lib.Dec.{T, leb→le, le→leb}
+use lib.ListN.{getD, take, drop}
+use lib.Seq.{split-at}
+use Rattle.common.specs.Counters.{width}
+use Rattle.common.specs.Ranges.{eof}
+use Rattle.common.specs.Tests.{all, any, count}
+use Rattle.common.proofs.Bools.{and-i, by-cond, cond-true, either}
+use Rattle.common.proofs.Listed.{all-at, all-imp}
+use Rattle.common.proofs.Scans.{all-from}
+use Rattle.modes.specs.Codes.{granted, canceling}
+use Rattle.table.specs.declared.Lock.{Lock}
+use Rattle.table.specs.Table.{Table, blank, numberOf, held, writes}
+use Rattle.table.specs.Sound.{valid, room, wants}
+use Rattle.table.specs.Bytes.{locksOf, tableOf}
+use Rattle.table.specs.Places.{FitsTable, Holds, withLock}
+use Rattle.table.proofs.Facts.{Valid, valid→, Sound, sound→}
+use Rattle.locks.specs.Conflicts.{hurries}
+use Rattle.locks.specs.Settle.{Settled, grantEvent, given, widest, nextNumber, lastsAfter, grant, free, granting, turn}
+use Rattle.locks.proofs.Turn.{w-valid-here, grant-sound}
+use Rattle.settle.specs.Posts.{Good, moded, Fair, grantedAs, Took, Due, putEvents, fresh, Did}
+use Rattle.settle.proofs.Scan.{inside}
+
+-- a record of a sound table fits
+pub fits : (issued : ℕ) (lasts : List ℕ) (before : List Lock) (r : Lock) (after : List Lock) → Sound issued lasts (before ++ (r ∷ after)) → FitsTable r
+unfolding room
+fits issued lasts before r after S =
+    let rs : List Lock = before ++ (r ∷ after) in
+    let v = valid→ issued lasts r (all-at (valid issued lasts) before r after (S .each)) in
+    let last = leb→le (getD lasts (r .stripe) 0 + count (wants (r .stripe)) rs) issued (all-from (room issued lasts rs) 16 0 (r .stripe) (S .rooms) (omega arith) (omega arith)) in
+    record {
+      handle = omega arith;
+      client = omega arith;
+      stripe = omega arith;
+      mode = omega arith;
+      state = omega arith;
+      number = ⊎-elim (λ (h : T (held r && writes r)). let n = v .number-of h in omega arith) (λ (h : T (not (held r && writes r))). let n = v .number-no h in omega arith) (either (held r && writes r));
+    }
+
+-- in another state it fits as well
+pub given-fits : (r q : Lock) (s : ℕ) → s < 2 ^ 32 → q ≡ given r s (numberOf r) (r .last) → FitsTable r → FitsTable q
+given-fits r q s h e f = rw e (record { handle = f .handle; client = f .client; stripe = f .stripe; mode = f .mode; state = h; number = f .number })
+
+pub good-fair : (n : ℕ) (t : List ℕ) → Good n t → Fair n t
+good-fair n t G = record {
+  shape = G .shape;
+  modes = all-imp (valid (T .issued) (T .lasts)) moded (λ r u. let v = valid→ (T .issued) (T .lasts) r u in search (and-i, le→leb)) (T .locks) (sound→ T (G .sounds) .each);
+}
+  where
+    T : Table
+    T = tableOf width t
+
+number-is : (lasts : List ℕ) (rs : List Lock) (w : Lock) → numberOf (grant lasts rs w) ≡ nextNumber lasts w
+unfolding grant
+number-is lasts rs w =
+    by-cond (λ (g : Lock). numberOf g ≡ nextNumber lasts w) (any (hurries w) rs) (given w canceling (nextNumber lasts w) (w .last)) (given w granted (nextNumber lasts w) (widest w eof rs)) (λ u. refl) (λ u. refl)
+
+-- what w becomes, by the answer b
+module _ (rs : List Lock) (w : Lock) (v : ℕ) (b : Bool) (e : b ≡ any (hurries w) rs) where
+  pub as-early : (r : Lock) → b ≡ true → r ≡ given w canceling v (w .last) → r ≡ grantedAs rs w v
+  as-early r f q = rw (← e, f) q
+
+  pub as-wide : (r : Lock) (l : ℕ) → b ≡ false → l ≡ widest w eof rs → r ≡ given w granted v l → r ≡ grantedAs rs w v
+  as-wide r l f p q = rw (← e, f, ← p) q
+
+module _ (n i : ℕ) (w : Lock) (t : List ℕ) (D : Due n i w t) where
+  abbrev lasts : List ℕ
+  lasts = tableOf width t .lasts
+
+  abbrev rs : List Lock
+  rs = locksOf width t
+
+  abbrev around : List Lock
+  around = take i rs ++ (w ∷ drop (suc i) rs)
+
+  split : rs ≡ around
+  split = split-at rs i blank (inside n i t (D .good .shape) (D .place)) ∙ ap (λ (x : Lock). take i rs ++ (x ∷ drop (suc i) rs)) (D .is)
+
+  sounds : Sound (tableOf width t .issued) lasts around
+  sounds = subst (λ (l : List Lock). Sound (tableOf width t .issued) lasts l) split (sound→ (tableOf width t) (D .good .sounds))
+
+  freed : T (free around w)
+  freed = subst (λ (l : List Lock). T (free l w)) split (D .free)
+
+  valid-here : Valid (tableOf width t .issued) lasts w
+  valid-here = w-valid-here (tableOf width t .issued) lasts (take i rs) w (drop (suc i) rs) sounds freed
+
+  pub due-stripe : w .stripe < 16
+  due-stripe = let v = valid-here in omega arith
+
+  pub due-moded : T (moded w)
+  due-moded = let v = valid-here in search (and-i, le→leb)
+
+  due-fits : FitsTable (grant lasts rs w)
+  due-fits =
+      subst (λ (l : List Lock). FitsTable (grant lasts l w)) (sym split)
+      (fits (tableOf width t .issued) (lastsAfter lasts w) (take i rs) (grant lasts around w) (drop (suc i) rs)
+      (grant-sound (tableOf width t .issued) lasts (take i rs) w (drop (suc i) rs) sounds freed))
+
+  pub due-number : nextNumber lasts w < 2 ^ 32
+  due-number = subst (λ (m : ℕ). m < 2 ^ 32) (number-is lasts rs w) (due-fits .number)
+
+  -- the number v is taken, which leaves u; w becomes g
+  module _ (v : ℕ) (u : List ℕ) (g : Lock) (K : Took n w (tableOf width t) v u) where
+    same-locks : locksOf width u ≡ rs
+    same-locks = ap (λ (X : Table). X .locks) (K .table .says)
+
+    pub due-fair : Fair n u
+    due-fair = record { shape = K .table .shape; modes = subst (λ (l : List Lock). T (all moded l)) (sym same-locks) (good-fair n t (D .good) .modes) }
+
+    module _ (q : g ≡ grantedAs (locksOf width u) w v) where
+      as-granted : g ≡ grant lasts rs w
+      unfolding grant
+      as-granted = q ∙ ap₂ (λ (l : List Lock) (m : ℕ). grantedAs l w m) same-locks (K .number)
+
+      pub granted-fits : FitsTable g
+      granted-fits = subst FitsTable (sym as-granted) due-fits
+
+      pub due-did : (k : ℕ) (b u′ c : List ℕ) → Holds n (withLock (tableOf width u) i g) u′ → c ≡ putEvents b k (grantEvent g ∷ []) → Did n k (turn i (fresh (tableOf width t))) b (k + 1) u′ c
+      unfolding turn
+      due-did k b u′ c H e =
+          subst (λ (s : Settled). Did n k s b (k + 1) u′ c)
+          (sym (ap (λ (x : Lock). cond (free rs x) (granting i (fresh (tableOf width t)) x (grant lasts rs x)) (fresh (tableOf width t))) (D .is)
+          ∙ cond-true (free rs w) (granting i (fresh (tableOf width t)) w (grant lasts rs w)) (fresh (tableOf width t)) (D .free)
+          ∙ ap (λ (x : Lock). granting i (fresh (tableOf width t)) w x) (sym as-granted)))
+          (record { table = subst (λ (X : Table). Holds n (withLock X i g) u′) (K .table .says) H; bytes = e; count = refl })

@@ -1,0 +1,10 @@
+pub mod Tests
+pub mod Scan
+pub mod Widths
+pub mod Taking
+pub mod Written
+pub mod Granting
+pub mod Turning
+pub mod Revoking
+pub mod Sweep
+pub mod Settling

@@ -1,0 +1,104 @@
+-- The turns, place by place: a turn leaves the table as it is, or its request is due; and the turns so far, and one more, are the turns of the rules.
+use Prim.Native.Nat.{ℕ, zero, suc, _+_, _≤_, _<_}
+use native.Mathlib.Omega.{arith}
+use native.Mathlib.Numerals.{add-one}
+use mathlib.Core.Bool.{Bool, true, false, not, cond}
+use mathlib.Core.List.{List, [], _∷_, append-nil}
+use mathlib.Core.Path.{_≡_, refl, sym, subst, _∙_}
+use lib.Dec.{T, not-T, eqb→eq}
+use lib.ListN.{length, length-append}
+use Rattle.common.specs.Counters.{width}
+use Rattle.common.specs.Tests.{any}
+use Rattle.common.proofs.Bools.{and-i, by-cond, cond-false, nand-l, nand-r}
+use Rattle.common.proofs.Order.{eq→eqb}
+use Rattle.table.specs.declared.Lock.{Lock}
+use Rattle.table.specs.Table.{Table, nth, waits}
+use Rattle.table.specs.Sound.{sound}
+use Rattle.table.specs.Bytes.{locksOf, tableOf}
+use Rattle.table.specs.Places.{lockAt, Shape}
+use Rattle.table.proofs.Facts.{Sound, sound→, →sound}
+use Rattle.table.proofs.Records.{locks-length}
+use Rattle.locks.specs.Conflicts.{obstacle}
+use Rattle.locks.specs.Settle.{Settled, grantEvent, grant, free, granting, turn, turns}
+use Rattle.locks.proofs.Walk.{Sounds, turns-sound}
+use Rattle.settle.specs.Posts.{Good, Due, fresh, Did}
+use Rattle.settle.proofs.Scan.{nth-is}
+use Rattle.settle.proofs.Written.{did-none, after, did-then}
+
+-- the turn of w at place i
+module _ (n i : ℕ) (t : List ℕ) (w : Lock) (G : Good n t) (h : i < n) (e : w ≡ lockAt t i) where
+  abbrev rs : List Lock
+  rs = locksOf width t
+
+  stays : (k : ℕ) (b : List ℕ) → T (not (free rs w)) → Did n k (turn i (fresh (tableOf width t))) b k t b
+  unfolding turn
+  stays k b f =
+      subst (λ (s : Settled). Did n k s b k t b)
+      (sym (cond-false (free rs (nth (tableOf width t) i)) (granting i (fresh (tableOf width t)) (nth (tableOf width t) i) (grant (tableOf width t .lasts) rs (nth (tableOf width t) i))) (fresh (tableOf width t))
+      (subst (λ (x : Lock). T (not (free rs x))) (sym (nth-is n i t w (G .shape) h e)) f)))
+      (did-none n k t b (G .shape))
+
+  pub turn-held : (k : ℕ) (b : List ℕ) → (w .state ≡ 0 → ⊥) → Did n k (turn i (fresh (tableOf width t))) b k t b
+  turn-held k b z = stays k b (nand-l (waits w) (not (any (obstacle w) rs)) (not-T (waits w) (λ u. z (eqb→eq (w .state) 0 u))))
+
+  module _ (x : Bool) (p : x ≡ any (obstacle w) rs) where
+    pub turn-blocked : (k : ℕ) (b : List ℕ) → x ≡ true → Did n k (turn i (fresh (tableOf width t))) b k t b
+    turn-blocked k b q = stays k b (nand-r (waits w) (not (any (obstacle w) rs)) (subst (λ (y : Bool). T (not (not y))) (sym q ∙ p) tt))
+
+    pub turn-due : w .state ≡ 0 → x ≡ false → Due n i w t
+    turn-due z q = record {
+      good = G;
+      place = h;
+      is = nth-is n i t w (G .shape) h e;
+      free = and-i (waits w) (not (any (obstacle w) rs)) (eq→eqb (w .state) 0 z) (subst (λ (y : Bool). T (not y)) (sym q ∙ p) tt);
+    }
+
+-- a turn does the same whatever events stand before
+turn-after : (i : ℕ) (s : Settled) → turn i s ≡ after s (turn i (fresh (s .table)))
+unfolding turn
+turn-after i s = go (free (s .table .locks) (nth (s .table) i))
+  where
+    g : Lock
+    g = grant (s .table .lasts) (s .table .locks) (nth (s .table) i)
+
+    go : (b : Bool) → cond b (granting i s (nth (s .table) i) g) s ≡ after s (cond b (granting i (fresh (s .table)) (nth (s .table) i) g) (fresh (s .table)))
+    go true = refl
+    go false = λ k. record { table = s .table; events = sym (append-nil (s .events)) k }
+
+pub turns-none : (n : ℕ) (t b : List ℕ) → Shape n t → Did n 0 (turns 0 (tableOf width t)) b 0 t b
+unfolding turns
+turns-none n t b S = did-none n 0 t b S
+
+pub turns-more : (n i k r : ℕ) (X : Table) (b t c u d : List ℕ) → Did n 0 (turns i X) b k t c → Did n k (turn i (fresh (tableOf width t))) c r u d → Did n 0 (turns (i + 1) X) b r u d
+unfolding turns
+turns-more n i k r X b t c u d D E =
+    rw add-one
+    (subst (λ (s : Settled). Did n 0 s b r u d) (sym (turn-after i (turns i X)))
+    (did-then n 0 k r (turns i X) (turn i (fresh (turns i X .table))) b t c u d D
+    (subst (λ (Y : Table). Did n k (turn i (fresh Y)) c r u d) (D .table .says) E)))
+
+-- so far at most one event for each place
+few : (i : ℕ) (X : Table) → length (turns i X .events) ≤ i
+unfolding turns turn
+few zero X = omega arith
+few (suc i) X =
+    let s : Settled = turns i X in
+    let w : Lock = nth (s .table) i in
+    let g : Lock = grant (s .table .lasts) (s .table .locks) w in
+    let h = few i X in
+    by-cond (λ (x : Settled). length (x .events) ≤ suc i) (free (s .table .locks) w) (granting i s w g) s (λ f. omega (arith, length-append (s .events) (grantEvent g ∷ []))) (λ f. omega arith)
+
+pub turns-few : (n i k : ℕ) (X : Table) (b t c : List ℕ) → Did n 0 (turns i X) b k t c → k ≤ i
+turns-few n i k X b t c D = let e = D .count in omega (arith, few i X)
+
+pub turns-good : (n i k : ℕ) (t b u c : List ℕ) → Good n t → i ≤ n → Did n 0 (turns i (tableOf width t)) b k u c → Good n u
+turns-good n i k t b u c G h D = record {
+  shape = D .table .shape;
+  sounds = subst (λ (Y : Table). T (sound Y)) (sym (D .table .says)) (→sound (s .table) (subst (λ (m : ℕ). Sound m (s .table .lasts) (s .table .locks)) (sym (R .count)) (R .sound)));
+}
+  where
+    s : Settled
+    s = turns i (tableOf width t)
+
+    R : Sounds (tableOf width t) s
+    R = turns-sound (tableOf width t) (sound→ (tableOf width t) (G .sounds)) i (let l = locks-length t in let m = G .shape .count in omega arith)

@@ -1,0 +1,7 @@
+use Rattle.settle.proofs.Tests.{uncut, cut-to}
+use borrow.Author.Needs.{needs}
+use Rattle.settle.proofs.cut.Statement.{statement}
+use Rattle.settle.proofs.cut.Tie as tie
+
+pub cut-spec : {M : Type 1} → statement M
+cut-spec = tie.close (tie.spec (λ c κs. search needs) (λ c. search uncut) (λ c κs. search needs) (λ c. search cut-to))

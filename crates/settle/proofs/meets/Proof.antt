@@ -1,0 +1,7 @@
+use Rattle.settle.proofs.Tests.{mode-lo, mode-hi, far, close}
+use borrow.Author.Needs.{needs}
+use Rattle.settle.proofs.meets.Statement.{statement}
+use Rattle.settle.proofs.meets.Tie as tie
+
+pub meets-spec : {M : Type 1} → statement M
+meets-spec = tie.close (tie.spec (λ c κs. search needs) (λ c. search far) (λ c κs. search (mode-lo, mode-hi)) (λ c. search close))

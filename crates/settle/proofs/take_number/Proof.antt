@@ -1,0 +1,18 @@
+-- `take_number`: PR takes none, and a write its stripe's next.
+use native.Mathlib.Omega.{arith}
+use denote.Ref.{now}
+use Rattle.common.specs.Counters.{width}
+use Rattle.table.specs.Bytes.{tableOf}
+use Rattle.settle.proofs.Taking.{take-none, next-is, take-next}
+use borrow.Author.Needs.{needs}
+use Rattle.settle.proofs.take_number.Statement.{statement}
+use Rattle.settle.proofs.take_number.Tie as tie
+
+put-last-requires : tie.Need-put-last-requires
+put-last-requires c κs =
+    let s = c .before .before .before .before .before .before in
+    let e = next-is (tableOf width (now (s .args .t)) .lasts) (s .args .w) (c .before .before .before .if1 .left) in
+    (s .pre .0, omega arith, omega arith)
+
+pub take-number-spec : {M : Type 1} → statement M
+take-number-spec = tie.close (tie.spec (λ c. search take-none) (λ c κs. search needs) (λ c. search needs) put-last-requires (λ c. search needs) (λ c. search take-next))

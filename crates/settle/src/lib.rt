@@ -1,0 +1,340 @@
+// Settling the table, in its bytes.
+use common::Number;
+use table::Lock;
+ghost use mathlib.Core.Path.{_≡_};
+ghost use mathlib.Core.Bool.{cond, false};
+ghost use mathlib.Core.List.{[], _∷_};
+ghost use Prim.Native.Nat.{_+_, _-_, _^_, _≤_, _<_, min};
+ghost use lib.Dec.{T};
+ghost use lib.ListN.{length, take};
+ghost use Rattle.common.specs.Counters.{width};
+ghost use Rattle.common.specs.Ranges.{eof};
+ghost use Rattle.common.specs.Tests.{any, keep};
+ghost use Rattle.table.specs.Table.{waits};
+ghost use Rattle.table.specs.Bytes.{locksOf, tableOf};
+ghost use Rattle.table.specs.Places.{Shape, Holds};
+ghost use Rattle.locks.specs.Conflicts.{against, obstacle, hurries};
+ghost use Rattle.locks.specs.Settle.{given, ahead, widest, nextNumber, turn, turns, presses, wanted, revoke};
+ghost use Rattle.locks.specs.Events.{eventsSize};
+ghost use Rattle.settle.specs.Posts.{Good, Fair, Past, First, moded, near, grantedAs, Took, Due, putEvents, fresh, Did, revokeAt, Wanted, Settles};
+
+// The states of a record.
+const WAITING: u64 = 0;
+
+const GRANTED: u64 = 1;
+
+const ASKED: u64 = 2;
+
+pub const CANCELING: u64 = 3;
+
+// The mode that takes no number.
+const PR: u64 = 1;
+
+// The last byte that a range can have.
+pub const EOF: u64 = 9223372036854775807;
+
+// The kinds of an event.
+const GRANT: u64 = 1;
+
+const REVOCATION: u64 = 2;
+
+// Where the first event stands, after their count, and how many bytes an event has.
+const EVENTS: usize = 4;
+
+const EVENT_BYTES: usize = 44;
+
+// Says whether r has w's stripe and a byte of what w asks up to l.
+fn near(w: Lock, l: u64, r: Lock) -> bool
+    ensures { λ b. ⌜ b ≡ near w l r ⌝ }
+{
+    (w.stripe == r.stripe) & ((w.first <= r.last) & (r.first <= l))
+}
+
+// Says whether r conflicts with what w asks up to l.
+fn meets(w: Lock, l: u64, r: Lock) -> bool
+    requires { ⌜ T (moded w) × T (moded r) ⌝ }
+    ensures { λ b. ⌜ b ≡ against w l r ⌝ }
+{
+    if !near(w, l, r) {
+        return false;
+    }
+    (w.handle.0 != r.handle.0) & modes::conflict(w.mode, r.mode, r.state)
+}
+
+// Says whether r keeps w waiting.
+fn hinders(w: Lock, r: Lock) -> bool
+    requires { ⌜ T (moded w) × T (moded r) ⌝ }
+    ensures { λ b. ⌜ b ≡ obstacle w r ⌝ }
+{
+    if !meets(w, w.last, r) {
+        return false;
+    }
+    (r.state != WAITING) | (r.handle.0 < w.handle.0)
+}
+
+// Says whether r is a later request for what w asks.
+fn hurrying(w: Lock, r: Lock) -> bool
+    requires { ⌜ T (moded w) × T (moded r) ⌝ }
+    ensures { λ b. ⌜ b ≡ hurries w r ⌝ }
+{
+    if !meets(w, w.last, r) {
+        return false;
+    }
+    (r.state == WAITING) & (w.handle.0 < r.handle.0)
+}
+
+// Says whether w waits for what r holds.
+fn pressing(w: Lock, r: Lock) -> bool
+    requires { ⌜ T (moded w) × T (moded r) ⌝ }
+    ensures { λ b. ⌜ b ≡ presses r w ⌝ }
+{
+    if !meets(w, w.last, r) {
+        return false;
+    }
+    w.state == WAITING
+}
+
+// Takes the byte before x, and 0 before 0.
+fn before(x: u64) -> u64
+    ensures { λ r. ⌜ r ≡ x - 1 ⌝ }
+{
+    if x == 0 {
+        return 0;
+    }
+    x - 1
+}
+
+// Cuts w's last byte, m so far, down to the byte before r where r conflicts.
+fn cut(m: u64, w: Lock, r: Lock) -> u64
+    requires { ⌜ T (moded w) × T (moded r) ⌝ }
+    ensures { λ b. ⌜ b ≡ cond (ahead w r) (min (r .first - 1) m) m ⌝ }
+{
+    if !meets(w, m, r) {
+        return m;
+    }
+    before(r.first)
+}
+
+// Says whether some record keeps w waiting.
+fn blocked(t: &[u8], n: usize, w: Lock) -> bool
+    requires { ⌜ Fair n (now t) × T (moded w) ⌝ }
+    ensures { λ b. ⌜ b ≡ any (obstacle w) (locksOf width (now (t .entry))) ⌝ }
+{
+    for i in 0..n {
+        if hinders(w, table::lock_at(t, i)) {
+            return true;
+        }
+    }
+    false
+}
+
+// Says whether a later request wants what w asks.
+fn hurried(t: &[u8], n: usize, w: Lock) -> bool
+    requires { ⌜ Fair n (now t) × T (moded w) ⌝ }
+    ensures { λ b. ⌜ b ≡ any (hurries w) (locksOf width (now (t .entry))) ⌝ }
+{
+    for i in 0..n {
+        if hurrying(w, table::lock_at(t, i)) {
+            return true;
+        }
+    }
+    false
+}
+
+// Finds the greatest last byte for w.
+fn reach(t: &[u8], n: usize, w: Lock) -> u64
+    requires { ⌜ Fair n (now t) × T (moded w) ⌝ }
+    ensures { λ b. ⌜ b ≡ widest w eof (locksOf width (now (t .entry))) ⌝ }
+{
+    let mut m: u64 = EOF;
+    for i in 0..n {
+        m = cut(m, w, table::lock_at(t, i));
+    }
+    m
+}
+
+// Makes of w the record with this state, number and last byte.
+pub fn given(w: Lock, state: u64, number: u64, last: u64) -> Lock
+    ensures { λ r. ⌜ r ≡ given w state number last ⌝ }
+{
+    let h = w.handle;
+    Lock {
+        handle: h,
+        client: w.client,
+        stripe: w.stripe,
+        mode: w.mode,
+        state: state,
+        number: Number(number),
+        first: w.first,
+        last: last,
+    }
+}
+
+// Makes of w what it is granted as, with the number v.
+fn granted(t: &[u8], n: usize, w: Lock, v: u64) -> Lock
+    requires { ⌜ Fair n (now t) × T (moded w) ⌝ }
+    ensures { λ r. ⌜ r ≡ grantedAs (locksOf width (now (t .entry))) w v ⌝ }
+{
+    if hurried(t, n, w) {
+        return given(w, CANCELING, v, w.last);
+    }
+    given(w, GRANTED, v, reach(t, n, w))
+}
+
+// Takes the number for w's grant: 0 for PR, else its stripe's next, which becomes its last.
+fn take_number(t: &mut [u8], n: usize, w: Lock) -> u64
+    requires { ⌜ Shape n (now t) × (w .stripe < 16) × (nextNumber (tableOf width (now t) .lasts) w < 2 ^ 32) ⌝ }
+    ensures { λ r. ⌜ Took n w (tableOf width (now (t .entry))) r (now (t .exit)) ⌝ }
+{
+    if w.mode == PR {
+        return 0;
+    }
+    let s = w.stripe as usize;
+    let v = table::last_of(t, s) + 1;
+    table::put_last(t, n, s, v);
+    v
+}
+
+// Writes the event at place k.
+fn put_event(b: &mut [u8], k: usize, kind: u64, l: Lock)
+    requires { ⌜ (k < 256) × (eventsSize width ≤ length (now b)) ⌝ }
+    ensures { λ _. ⌜ now (b .exit) ≡ putEvents (now (b .entry)) k (record { kind = kind; lock = l } ∷ []) ⌝ }
+{
+    let at = EVENTS + EVENT_BYTES * k;
+    xdr::put_u32(b, at, kind);
+    xdr::put_u32(b, at + 4, l.handle.0);
+    xdr::put_u32(b, at + 8, l.client);
+    xdr::put_u32(b, at + 12, l.stripe);
+    xdr::put_u32(b, at + 16, l.mode);
+    xdr::put_u32(b, at + 20, l.state);
+    xdr::put_u32(b, at + 24, l.number.0);
+    xdr::put_u64(b, at + 28, l.first);
+    xdr::put_u64(b, at + 36, l.last);
+}
+
+// Grants w, the record at place i, and writes its event after k others.
+fn grant(t: &mut [u8], b: &mut [u8], n: usize, i: usize, w: Lock, k: usize)
+    requires { ⌜ Due n i w (now t) × (k < 256) × (eventsSize width ≤ length (now b)) ⌝ }
+    ensures { λ _. ⌜ Did n k (turn i (fresh (tableOf width (now (t .entry))))) (now (b .entry)) (k + 1) (now (t .exit)) (now (b .exit)) ⌝ }
+{
+    let v = take_number(t, n, w);
+    let g = granted(t, n, w, v);
+    table::put_lock(t, n, i, g);
+    put_event(b, k, GRANT, g);
+}
+
+// Takes the turn of the record at place i, after k events; answers how many events there are now.
+fn turn(t: &mut [u8], b: &mut [u8], n: usize, i: usize, k: usize) -> usize
+    requires { ⌜ Good n (now t) × (i < n) × (k < 256) × (eventsSize width ≤ length (now b)) ⌝ }
+    ensures { λ r. ⌜ Did n k (turn i (fresh (tableOf width (now (t .entry))))) (now (b .entry)) r (now (t .exit)) (now (b .exit)) ⌝ }
+{
+    let w = table::lock_at(t, i);
+    if w.state != WAITING {
+        return k;
+    }
+    if blocked(t, n, w) {
+        return k;
+    }
+    grant(t, b, n, i, w, k);
+    k + 1
+}
+
+// Takes all turns; answers how many events there are.
+fn grants(t: &mut [u8], b: &mut [u8], n: usize) -> usize
+    requires { ⌜ Good n (now t) × (eventsSize width ≤ length (now b)) ⌝ }
+    ensures { λ r. ⌜ Did n 0 (turns n (tableOf width (now (t .entry)))) (now (b .entry)) r (now (t .exit)) (now (b .exit)) ⌝ }
+{
+    let mut k = 0;
+    for i in 0..n {
+        k = turn(t, b, n, i, k);
+    }
+    k
+}
+
+// Finds the first record that waits.
+fn first_waiting(t: &[u8], n: usize) -> usize
+    requires { ⌜ Shape n (now t) ⌝ }
+    ensures { λ r. ⌜ First waits n (locksOf width (now (t .entry))) r ⌝ }
+{
+    for i in 0..n {
+        let r = table::lock_at(t, i);
+        if r.state == WAITING {
+            return i;
+        }
+    }
+    n
+}
+
+// Says whether some request waits for what r holds; none waits before place f.
+fn pressed(t: &[u8], n: usize, f: usize, r: Lock) -> bool
+    requires { ⌜ Fair n (now t) × Past waits n (locksOf width (now t)) f × T (moded r) ⌝ }
+    ensures { λ b. ⌜ b ≡ any (presses r) (locksOf width (now (t .entry))) ⌝ }
+{
+    for i in f..n {
+        if pressing(table::lock_at(t, i), r) {
+            return true;
+        }
+    }
+    false
+}
+
+// Makes r, the record at place i, asked, and writes its event after k others.
+fn ask(t: &mut [u8], b: &mut [u8], n: usize, i: usize, r: Lock, k: usize)
+    requires { ⌜ Wanted n i r (now t) × (k < 256) × (eventsSize width ≤ length (now b)) ⌝ }
+    ensures { λ _. ⌜ Did n k (revokeAt i (tableOf width (now (t .entry)))) (now (b .entry)) (k + 1) (now (t .exit)) (now (b .exit)) ⌝ }
+{
+    let q = given(r, ASKED, r.number.0, r.last);
+    table::put_lock(t, n, i, q);
+    put_event(b, k, REVOCATION, q);
+}
+
+// Revokes the record at place i if it is wanted, after k events; answers how many events there are now.
+fn revoke(t: &mut [u8], b: &mut [u8], n: usize, f: usize, i: usize, k: usize) -> usize
+    requires { ⌜ Fair n (now t) × Past waits n (locksOf width (now t)) f × (i < n) × (k + length (revokeAt i (tableOf width (now t)) .events) ≤ 256) × (eventsSize width ≤ length (now b)) ⌝ }
+    ensures { λ r. ⌜ Did n k (revokeAt i (tableOf width (now (t .entry)))) (now (b .entry)) r (now (t .exit)) (now (b .exit)) ⌝ }
+{
+    let r = table::lock_at(t, i);
+    if r.state != GRANTED {
+        return k;
+    }
+    if !pressed(t, n, f, r) {
+        return k;
+    }
+    ask(t, b, n, i, r, k);
+    k + 1
+}
+
+// Revokes each record that is wanted, after j events; answers how many events there are now.
+fn revokes(t: &mut [u8], b: &mut [u8], n: usize, f: usize, j: usize) -> usize
+    requires { ⌜ Fair n (now t) × Past waits n (locksOf width (now t)) f × (j + length (keep (wanted (locksOf width (now t))) (locksOf width (now t))) ≤ 256) × (eventsSize width ≤ length (now b)) ⌝ }
+    ensures { λ r. ⌜ Did n j (revoke (fresh (tableOf width (now (t .entry))))) (now (b .entry)) r (now (t .exit)) (now (b .exit)) ⌝ }
+{
+    let mut k = j;
+    for i in 0..n {
+        k = revoke(t, b, n, f, i, k);
+    }
+    k
+}
+
+// Revokes what the waiting requests want, after j events: nothing where none waits.
+fn revocations(t: &mut [u8], b: &mut [u8], n: usize, j: usize) -> usize
+    requires { ⌜ Fair n (now t) × (j + length (keep (wanted (locksOf width (now t))) (locksOf width (now t))) ≤ 256) × (eventsSize width ≤ length (now b)) ⌝ }
+    ensures { λ r. ⌜ Did n j (revoke (fresh (tableOf width (now (t .entry))))) (now (b .entry)) r (now (t .exit)) (now (b .exit)) ⌝ }
+{
+    let f = first_waiting(t, n);
+    if n <= f {
+        return j;
+    }
+    revokes(t, b, n, f, j)
+}
+
+// Settles the table of n records, writes the events' array, and answers how many events there are.
+pub fn settle(t: &mut [u8], b: &mut [u8], n: usize) -> usize
+    requires { ⌜ Good n (now t) × (eventsSize width ≤ length (now b)) ⌝ }
+    ensures { λ r. ⌜ Settles n (tableOf width (now (t .entry))) (now (b .entry)) r (now (t .exit)) (now (b .exit)) ⌝ }
+{
+    let g = grants(t, b, n);
+    let k = revocations(t, b, n, g);
+    xdr::put_u32(b, 0, k as u64);
+    k
+}

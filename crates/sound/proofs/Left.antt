@@ -1,0 +1,74 @@
+-- The loops: what a loop has found, with what is left of the list, is what the whole list has.
+use Prim.Native.Nat.{ℕ, suc, _+_, _-_, _≤_, _<_}
+use mathlib.Core.Bool.{Bool, true, false, _&&_, cond, and-true, and-assoc}
+use mathlib.Core.List.{List, [], _∷_}
+use mathlib.Core.Path.{_≡_, sym, ap, _∙_}
+use native.Mathlib.Numerals.{add-one}
+use native.Mathlib.Omega.{arith}
+use lib.Dec.{ltb}
+use lib.ListN.{length, getD, drop}
+use lib.Seq.{drop-cons}
+use Rattle.common.specs.Counters.{width}
+use Rattle.common.specs.Tests.{all, count, upFrom}
+use Rattle.table.specs.declared.Lock.{Lock}
+use Rattle.table.specs.Table.{handleOf, stripeCount}
+use Rattle.table.specs.Sound.{stripes}
+use Rattle.table.specs.Bytes.{locksOf}
+use Rattle.table.specs.Places.{lockAt}
+use Rattle.table.proofs.Records.{locks-from, locks-end}
+use Rattle.sound.specs.Parts.{Sized, climbs}
+
+-- what is left of the records, of a list of bytes, of the stripes
+module _ (n i : ℕ) (t : List ℕ) (S : Sized n t) where
+  pub records-from : (r : Lock) → i < n → r ≡ lockAt t i → drop i (locksOf width t) ≡ r ∷ drop (i + 1) (locksOf width t)
+  records-from r h e = rw e (locks-from t i (let c = S .count in omega arith))
+
+  pub records-end : n ≤ i → drop i (locksOf width t) ≡ []
+  records-end h = locks-end t i (let c = S .count in omega arith)
+
+pub bytes-from : (t : List ℕ) (i : ℕ) → i < length t → drop i t ≡ getD t i 0 ∷ drop (i + 1) t
+bytes-from t i h = rw add-one (drop-cons t i 0 h)
+
+abbrev pub stripesFrom : ℕ → List ℕ
+stripesFrom s = upFrom s (stripeCount - s)
+
+pub stripes-from : (s : ℕ) → s < 16 → stripesFrom s ≡ s ∷ stripesFrom (s + 1)
+stripes-from s h =
+    let e : 16 - s ≡ suc (16 - (s + 1)) = omega arith in
+    ap (upFrom s) e ∙ ap (λ (k : ℕ). s ∷ upFrom k (16 - (s + 1))) (sym (add-one s))
+
+pub stripes-end : (s : ℕ) → 16 ≤ s → stripesFrom s ≡ []
+stripes-end s h = let e : 16 - s ≡ 0 = omega arith in ap (upFrom s) e
+
+-- a test of each element
+module _ {A : Type 0} (p : A → Bool) (w ok : Bool) where
+  pub all-more : {l m : List A} (x : A) (b : Bool) → l ≡ x ∷ m → b ≡ p x → (ok && all p l) ≡ w → ((ok && b) && all p m) ≡ w
+  all-more {m = m} x b e h q =
+      and-assoc ok b (all p m) ∙ ap (λ (y : Bool). ok && (y && all p m)) h ∙ ap (λ (l : List A). ok && all p l) (sym e) ∙ q
+
+  pub all-done : {l : List A} → l ≡ [] → (ok && all p l) ≡ w → ok ≡ w
+  all-done e q = sym (and-true ok) ∙ ap (λ (l : List A). ok && all p l) (sym e) ∙ q
+
+-- a count
+module _ {A : Type 0} (p : A → Bool) (w k : ℕ) where
+  pub count-more : {l m : List A} (x : A) (j : ℕ) → l ≡ x ∷ m → j ≡ cond (p x) 1 0 → k + count p l ≡ w → k + j + count p m ≡ w
+  count-more {l} {m} x j e h q =
+      let r : k + cond (p x) (suc (count p m)) (count p m) ≡ w = ap (λ (y : List A). k + count p y) (sym e) ∙ q in
+      go (p x) h r
+    where
+      go : (b : Bool) → j ≡ cond b 1 0 → k + cond b (suc (count p m)) (count p m) ≡ w → k + j + count p m ≡ w
+      go true f r = omega arith
+      go false f r = omega arith
+
+  pub count-done : {l : List A} → l ≡ [] → k + count p l ≡ w → k ≡ w
+  count-done e q = let r : k + 0 ≡ w = ap (λ (y : List A). k + count p y) (sym e) ∙ q in omega arith
+
+-- handles that rise from above b
+pub climbs-more : (w ok : Bool) (b h : ℕ) {l m : List Lock} (r : Lock) → l ≡ r ∷ m → h ≡ handleOf r → (ok && climbs b l) ≡ w → ((ok && ltb b h) && climbs h m) ≡ w
+unfolding climbs
+climbs-more w ok b h {m = m} r e f q =
+    and-assoc ok (ltb b h) (climbs h m) ∙ ap (λ (k : ℕ). ok && (ltb b k && climbs k m)) f ∙ ap (λ (l : List Lock). ok && climbs b l) (sym e) ∙ q
+
+pub climbs-done : (w ok : Bool) (b : ℕ) {l : List Lock} → l ≡ [] → (ok && climbs b l) ≡ w → ok ≡ w
+unfolding climbs
+climbs-done w ok b e q = sym (and-true ok) ∙ ap (λ (l : List Lock). ok && climbs b l) (sym e) ∙ q

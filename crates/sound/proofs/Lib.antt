@@ -1,0 +1,7 @@
+pub mod Codes
+pub mod Left
+pub mod Handles
+pub mod Friends
+pub mod Rows
+pub mod Whole
+pub mod Numbers

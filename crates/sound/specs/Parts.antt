@@ -1,0 +1,35 @@
+-- What the parts of the test answer to each other. No public contract cites this file.
+use Prim.Native.Nat.{ℕ, _≤_}
+use mathlib.Core.Bool.{Bool, true, _&&_, cond}
+use mathlib.Core.Path.{_≡_}
+use mathlib.Core.List.{List, [], _∷_}
+use lib.Dec.{ltb, eqb}
+use lib.ListN.{length}
+use Rattle.common.specs.Counters.{width}
+use Rattle.common.specs.Ranges.{within}
+use Rattle.modes.specs.Codes.{nbw, bw, canceling}
+use Rattle.table.specs.declared.Lock.{Lock}
+use Rattle.table.specs.Table.{handleOf, numberOf, maxRecords}
+use Rattle.table.specs.Sound.{differ, share}
+use Rattle.table.specs.Bytes.{tableSize}
+use Rattle.table.specs.Places.{countOf}
+
+-- bytes of a table's length that say n records
+pub record Sized (n : ℕ) (t : List ℕ) : Type 0 where
+  pub size : length t ≡ tableSize width
+  pub count : countOf t ≡ n
+  pub most : n ≤ maxRecords
+
+-- what two records are to each other, but for their handles
+unfoldable pub friendly : Lock → Lock → Bool
+friendly a b = differ a b && share a b
+
+-- "the one with the smaller number is a canceling NBW and the other is NBW or BW": a, and one of number n, mode m and state s
+unfoldable pub smallerYields : Lock → ℕ → ℕ → ℕ → Bool
+smallerYields a n m s =
+    cond (ltb (numberOf a) n) ((eqb (a .mode) nbw && eqb (a .state) canceling) && within nbw m bw) ((eqb m nbw && eqb s canceling) && within nbw (a .mode) bw)
+
+-- the handles rise, from above h
+unfoldable pub climbs : ℕ → List Lock → Bool
+climbs h [] = true
+climbs h (r ∷ rs) = ltb h (handleOf r) && climbs (handleOf r) rs
