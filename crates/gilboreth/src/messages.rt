@@ -1,0 +1,96 @@
+// The four messages: request, acknowledge, downgrade, release.
+use locks::Message;
+use serve::Answer;
+ghost use Rattle.locks.specs.declared.Message.the-variants.{Request, Acknowledge, Downgrade, Release};
+ghost use Rattle.serve.specs.Serves.{Leaves};
+ghost use Rattle.gilboreth.specs.Messages.{outcome};
+
+// How many bytes the event buffer has at least.
+pub const EVENTS_BYTES: usize = 11268;
+
+// Serves a message on bytes of which nothing is known.
+fn call(table: &mut [u8], events: &mut [u8], m: Message) -> Answer
+    ensures { λ r. ⌜ Leaves (outcome m (now (table .entry)) (now (events .entry))) (now (table .entry)) (now (events .entry)) r (now (table .exit)) (now (events .exit)) ⌝ }
+{
+    if events.len() < EVENTS_BYTES {
+        return serve::refused(1);
+    }
+    if !sound::table_sound(table) {
+        return serve::refused(2);
+    }
+    serve::serve(table, events, m)
+}
+
+// Asks for a lock.
+#[no_mangle]
+pub extern "C" fn gil_request(
+    table: &mut [u8],
+    events: &mut [u8],
+    client: u64,
+    stripe: u64,
+    mode: u64,
+    first: u64,
+    last: u64,
+) -> Answer
+    ensures { λ r. ⌜ Leaves (outcome (Request client stripe mode first last) (now (table .entry)) (now (events .entry))) (now (table .entry)) (now (events .entry)) r (now (table .exit)) (now (events .exit)) ⌝ }
+{
+    let m = Message::Request {
+        client: client,
+        stripe: stripe,
+        mode: mode,
+        first: first,
+        last: last,
+    };
+    call(table, events, m)
+}
+
+// Replies to a revocation.
+#[no_mangle]
+pub extern "C" fn gil_acknowledge(
+    table: &mut [u8],
+    events: &mut [u8],
+    client: u64,
+    handle: u64,
+) -> Answer
+    ensures { λ r. ⌜ Leaves (outcome (Acknowledge client handle) (now (table .entry)) (now (events .entry))) (now (table .entry)) (now (events .entry)) r (now (table .exit)) (now (events .exit)) ⌝ }
+{
+    let m = Message::Acknowledge {
+        client: client,
+        handle: handle,
+    };
+    call(table, events, m)
+}
+
+// Makes a canceling BW or PW lock an NBW lock.
+#[no_mangle]
+pub extern "C" fn gil_downgrade(
+    table: &mut [u8],
+    events: &mut [u8],
+    client: u64,
+    handle: u64,
+) -> Answer
+    ensures { λ r. ⌜ Leaves (outcome (Downgrade client handle) (now (table .entry)) (now (events .entry))) (now (table .entry)) (now (events .entry)) r (now (table .exit)) (now (events .exit)) ⌝ }
+{
+    let m = Message::Downgrade {
+        client: client,
+        handle: handle,
+    };
+    call(table, events, m)
+}
+
+// Gives a lock back, or withdraws a waiting request.
+#[no_mangle]
+pub extern "C" fn gil_release(
+    table: &mut [u8],
+    events: &mut [u8],
+    client: u64,
+    handle: u64,
+) -> Answer
+    ensures { λ r. ⌜ Leaves (outcome (Release client handle) (now (table .entry)) (now (events .entry))) (now (table .entry)) (now (events .entry)) r (now (table .exit)) (now (events .exit)) ⌝ }
+{
+    let m = Message::Release {
+        client: client,
+        handle: handle,
+    };
+    call(table, events, m)
+}
