@@ -1,7 +1,7 @@
 // Mode codes, state codes, and table II: when an asked mode conflicts with a record's mode and state.
 ghost use mathlib.Core.Path.{_≡_};
 ghost use Prim.Native.Nat.{_≤_};
-ghost use Rattle.modes.specs.Codes.{modeOf, stateOf};
+ghost use Rattle.modes.specs.Codes.{modeOf, stateOf, knownMode, knownState};
 ghost use Rattle.modes.specs.Conflict.{conflict};
 
 // The four modes, and Unknown for any other code.
@@ -45,6 +45,32 @@ pub fn state_of(code: u64) -> State
         2 => State::Asked,
         3 => State::Canceling,
         4..=u64::MAX => State::Unknown,
+    }
+}
+
+// Says whether a code names a mode.
+pub fn known_mode(code: u64) -> bool
+    ensures { λ r. ⌜ r ≡ knownMode code ⌝ }
+{
+    match mode_of(code) {
+        Mode::Pr => true,
+        Mode::Nbw => true,
+        Mode::Bw => true,
+        Mode::Pw => true,
+        Mode::Unknown => false,
+    }
+}
+
+// Says whether a code names a state.
+pub fn known_state(code: u64) -> bool
+    ensures { λ r. ⌜ r ≡ knownState code ⌝ }
+{
+    match state_of(code) {
+        State::Waiting => true,
+        State::Granted => true,
+        State::Asked => true,
+        State::Canceling => true,
+        State::Unknown => false,
     }
 }
 

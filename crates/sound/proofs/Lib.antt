@@ -1,4 +1,3 @@
-pub mod Codes
 pub mod Left
 pub mod Handles
 pub mod Friends

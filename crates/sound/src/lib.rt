@@ -1,6 +1,4 @@
 // Says whether a lock table's bytes are sound, by every rule of document 01.
-use modes::Mode;
-use modes::State;
 use table::Lock;
 ghost use mathlib.Core.Path.{_≡_};
 ghost use mathlib.Core.Bool.{cond};
@@ -8,7 +6,6 @@ ghost use Prim.Native.Nat.{_≤_, _<_};
 ghost use lib.ListN.{length, drop};
 ghost use Rattle.common.specs.Counters.{width};
 ghost use Rattle.common.specs.Tests.{all, pairs, count, zeros};
-ghost use Rattle.modes.specs.Codes.{knownMode, knownState};
 ghost use Rattle.table.specs.Sound.{valid, numbered, wants, room, stripes};
 ghost use Rattle.table.specs.Bytes.{tableSize, tableOf, soundTableBytes};
 ghost use Rattle.table.specs.Places.{lockAt};
@@ -33,32 +30,6 @@ const MAX_STRIPE: u64 = 15;
 const STRIPES: usize = 16;
 
 const EOF: u64 = 9223372036854775807;
-
-// Says whether a code names a mode.
-fn known_mode(code: u64) -> bool
-    ensures { λ r. ⌜ r ≡ knownMode code ⌝ }
-{
-    match modes::mode_of(code) {
-        Mode::Pr => true,
-        Mode::Nbw => true,
-        Mode::Bw => true,
-        Mode::Pw => true,
-        Mode::Unknown => false,
-    }
-}
-
-// Says whether a code names a state.
-fn known_state(code: u64) -> bool
-    ensures { λ r. ⌜ r ≡ knownState code ⌝ }
-{
-    match modes::state_of(code) {
-        State::Waiting => true,
-        State::Granted => true,
-        State::Asked => true,
-        State::Canceling => true,
-        State::Unknown => false,
-    }
-}
 
 // Says whether a record's number is one that it may have.
 fn is_numbered(t: &[u8], l: Lock) -> bool
@@ -87,8 +58,8 @@ fn is_valid(t: &[u8], issued: u64, l: Lock) -> bool
     handle
         & (l.client <= MAX_CLIENT)
         & (l.stripe <= MAX_STRIPE)
-        & known_mode(l.mode)
-        & known_state(l.state)
+        & modes::known_mode(l.mode)
+        & modes::known_state(l.state)
         & range
         & is_numbered(t, l)
 }

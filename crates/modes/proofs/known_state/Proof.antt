@@ -1,8 +1,8 @@
 -- `known_state`: each arm of the match is a name, and a code is valid exactly where it has one.
 use borrow.Author.Needs.{needs}
-use Rattle.sound.proofs.Codes.{state-told}
-use Rattle.sound.proofs.known_state.Statement.{statement}
-use Rattle.sound.proofs.known_state.Tie as tie
+use Rattle.modes.proofs.Codes.{state-told}
+use Rattle.modes.proofs.known_state.Statement.{statement}
+use Rattle.modes.proofs.known_state.Tie as tie
 
 pub known-state-spec : {M : Type 1} → statement M
 known-state-spec =

@@ -1,8 +1,8 @@
 -- `known_mode`: each arm of the match is a name, and a code is valid exactly where it has one.
 use borrow.Author.Needs.{needs}
-use Rattle.sound.proofs.Codes.{mode-told}
-use Rattle.sound.proofs.known_mode.Statement.{statement}
-use Rattle.sound.proofs.known_mode.Tie as tie
+use Rattle.modes.proofs.Codes.{mode-told}
+use Rattle.modes.proofs.known_mode.Statement.{statement}
+use Rattle.modes.proofs.known_mode.Tie as tie
 
 pub known-mode-spec : {M : Type 1} → statement M
 known-mode-spec =
