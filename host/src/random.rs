@@ -27,14 +27,21 @@ impl Random {
         self.below(times) == 0
     }
 
+    /// One of these.
+    pub fn pick<T: Copy>(&mut self, from: &[T]) -> T {
+        from[self.below(from.len() as u64) as usize]
+    }
+
     /// Fills the bytes with anything.
     pub fn fill(&mut self, bytes: &mut [u8]) {
-        bytes.fill_with(|| self.draw() as u8);
+        for part in bytes.chunks_mut(8) {
+            part.copy_from_slice(&self.draw().to_be_bytes()[..part.len()]);
+        }
     }
 }
 
 /// Plays a test once for each seed; a failing one prints its seed.
-pub fn for_seeds(seeds: Range<u64>, test: impl Fn(&mut Random)) {
+pub fn for_seeds(seeds: Range<u64>, mut test: impl FnMut(&mut Random)) {
     for seed in seeds {
         let _named = Named(seed);
         test(&mut Random::new(seed));
@@ -46,7 +53,7 @@ struct Named(u64);
 impl Drop for Named {
     fn drop(&mut self) {
         if std::thread::panicking() {
-            eprintln!("seed {}", self.0);
+            eprintln!("seed {0}, which the seeds {0}..{1} play alone", self.0, self.0 + 1);
         }
     }
 }

@@ -1,11 +1,14 @@
 //! Laws of the lock table, over random sessions with few stripes and crowded ranges.
 
+mod messages;
+
 use gilboreth_host::model::locks::{answer, decode, encode, Answer, EVENTS_BYTES, TABLE_BYTES};
 use gilboreth_host::model::modes::{Mode, State};
 use gilboreth_host::model::serve::{obstacle, serve, successor, Event, Kind, Message};
 use gilboreth_host::model::table::{Record, Table, STRIPES};
 use gilboreth_host::model::EOF;
-use gilboreth_host::random::{for_seeds, Random};
+use gilboreth_host::random::for_seeds;
+use messages::message;
 
 /// One table as values and as bytes, and what the session has seen of it.
 struct Session {
@@ -132,31 +135,6 @@ impl Session {
             assert_eq!(number, *write_grants);
         }
     }
-
-    /// A request on a crowded place, or a message on some record, most often a held one,
-    /// and now and then by another client. Where one waits, another is held.
-    fn message(&self, random: &mut Random, requests: u64) -> Message {
-        if self.table.records.is_empty() || random.below(10) < requests {
-            let (client, stripe, mode) = (random.below(4), random.below(2), 1 + random.below(4));
-            let start = if random.once_in(4) { EOF - 24 } else { 0 };
-            let first = start + random.below(24);
-            let last = (first + random.below(8)).min(EOF);
-            return Message::Request { client, stripe, mode, first, last };
-        }
-        let any = random.once_in(4);
-        let mut records: Vec<&Record> = self.table.records.iter().collect();
-        records.retain(|record| any || record.held());
-        let Record { handle, mut client, .. } =
-            *records[random.below(records.len() as u64) as usize];
-        if random.once_in(20) {
-            client = random.below(4);
-        }
-        match random.below(4) {
-            0 | 1 => Message::Acknowledge { client, handle },
-            2 => Message::Downgrade { client, handle },
-            _ => Message::Release { client, handle },
-        }
-    }
 }
 
 /// The sessions differ in how fast their tables fill; the fullest meet the limit of 256 records.
@@ -166,7 +144,7 @@ fn sessions() {
         for_seeds(0..12, |random| {
             let mut session = Session::new();
             for _ in 0..calls {
-                let message = session.message(random, requests);
+                let message = message(&session.table, random, requests);
                 session.serve(message);
             }
             assert!(session.seen.iter().all(|&times| times > 0), "{:?}", session.seen);

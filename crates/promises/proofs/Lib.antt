@@ -5,3 +5,5 @@ pub mod Pieces
 pub mod Demand3
 pub mod Spaced
 pub mod StripeRefusals
+pub mod Sessions
+pub mod Seam

@@ -1,3 +1,5 @@
 pub mod Examples
 pub mod Run
 pub mod Demand3
+pub mod Session
+pub mod Seam

@@ -30,7 +30,7 @@ blank zero b = refl
 blank (suc n) zero = refl
 blank (suc n) (suc b) = blank n b
 
-be-blank : (w n at : ℕ) → be w (replicate n 0) at ≡ 0
+pub be-blank : (w n at : ℕ) → be w (replicate n 0) at ≡ 0
 unfolding be
 be-blank zero n at = refl
 be-blank (suc w) n at = omega (arith, be-blank w n at, blank n (at + w))

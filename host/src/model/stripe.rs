@@ -116,8 +116,17 @@ pub fn decode_log(bytes: &[u8]) -> Option<Vec<Run>> {
 }
 
 /// The bytes of a map, with zero bytes after its runs.
-fn encode_map(runs: &[Run]) -> Vec<u8> {
-    let mut bytes = vec![0; MAP_BYTES];
+pub fn encode_map(runs: &[Run]) -> Vec<u8> {
+    encode(MAP_BYTES, runs)
+}
+
+/// The bytes of a log, with zero bytes after its entries.
+pub fn encode_log(entries: &[Run]) -> Vec<u8> {
+    encode(LOG_BYTES, entries)
+}
+
+fn encode(length: usize, runs: &[Run]) -> Vec<u8> {
+    let mut bytes = vec![0; length];
     put_array(&mut bytes, RUN_BYTES, runs, put_run);
     bytes
 }

@@ -52,5 +52,5 @@ pub fn put_array<T>(bytes: &mut [u8], width: usize, elements: &[T], put: impl Fn
 
 /// Whether these bytes are zero bytes.
 pub fn zero(bytes: &[u8]) -> bool {
-    bytes.iter().all(|&byte| byte == 0)
+    bytes.iter().fold(0, |all, byte| all | byte) == 0
 }

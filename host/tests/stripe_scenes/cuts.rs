@@ -3,11 +3,49 @@
 //! At the end each byte under a noted piece is that of the noted piece with the greatest number
 //! there, and every other byte is as it began.
 
-use gilboreth_host::model::runs::Run;
-use gilboreth_host::model::stripe::{
-    decode_log, decode_map, note, restart, write, LOG_BYTES, MAP_BYTES,
-};
+use super::{apart, drawn};
+use gilboreth_host::beside::Beside;
+use gilboreth_host::model::runs::{Run, ENTRIES, RUNS};
+use gilboreth_host::model::stripe::{decode_log, decode_map, LOG_BYTES, MAP_BYTES};
 use gilboreth_host::random::{for_seeds, Random};
+use std::ops::{Range, RangeInclusive};
+
+/// Few numbers, so that many pieces share theirs and some are written without their own note.
+pub fn crowded(beside: &mut Beside, seeds: Range<u64>) {
+    for_seeds(seeds, |random| {
+        let image_length = 1 + random.below(64);
+        let runs = drawn(random, 10, image_length, 24, 5);
+        Stripe::new(beside, random, image_length).play(runs, 60);
+    });
+}
+
+/// A run near 1,024 runs, where notes are refused with 16 and restarts are not.
+pub fn at_the_limit_of_runs(beside: &mut Beside, seeds: Range<u64>) {
+    for_seeds(seeds, |random| {
+        let mut runs = drawn(random, 60, 2_100, 3, 6);
+        let mut stripe = Stripe::new(beside, random, 2_100);
+        for run in apart(1_025, 3) {
+            stripe.note(run, false);
+        }
+        assert_eq!(stripe.noted.len(), RUNS);
+        runs.extend(&stripe.noted);
+        stripe.play(runs, 200);
+    });
+}
+
+/// A run that fills its log, where notes are refused with 17 and restarts are not.
+pub fn at_the_limit_of_entries(beside: &mut Beside, seeds: Range<u64>) {
+    for_seeds(seeds, |random| {
+        let runs = drawn(random, 20, 64, 24, 5);
+        let mut stripe = Stripe::new(beside, random, 64);
+        while stripe.noted.len() < ENTRIES - 10 {
+            let run = stripe.random.pick(&runs);
+            stripe.note(run, false);
+        }
+        stripe.play(runs, 200);
+        assert_eq!(stripe.noted.len(), ENTRIES);
+    });
+}
 
 /// A piece, and how its last accepted write ended, if it had one.
 struct Piece {
@@ -27,12 +65,13 @@ fn byte(number: u64, place: usize) -> u8 {
     (67 * number + place as u64) as u8
 }
 
-fn places(run: &Run) -> std::ops::RangeInclusive<usize> {
+fn places(run: &Run) -> RangeInclusive<usize> {
     run.first as usize..=run.last as usize
 }
 
 /// A stripe under test, with the test's own account of it beside.
 struct Stripe<'a> {
+    beside: &'a mut Beside,
     random: &'a mut Random,
     map: Vec<u8>,
     log: Vec<u8>,
@@ -45,64 +84,70 @@ struct Stripe<'a> {
 }
 
 impl Stripe<'_> {
-    fn new(random: &mut Random, image_length: usize) -> Stripe<'_> {
-        let mut image = vec![0; image_length];
+    fn new<'a>(beside: &'a mut Beside, random: &'a mut Random, image_length: u64) -> Stripe<'a> {
+        let mut image = vec![0; image_length as usize];
         random.fill(&mut image);
         Stripe {
+            beside,
             random,
             map: vec![0; MAP_BYTES],
             log: vec![0; LOG_BYTES],
             began: image.clone(),
+            numbers: vec![0; image.len()],
             image,
             noted: Vec::new(),
-            numbers: vec![0; image_length],
         }
     }
 
-    /// A piece anywhere in the image, of at most this length and number.
-    fn piece(&mut self, longest: u64, greatest: u64) -> Run {
-        let end = self.image.len() as u64;
-        let first = self.random.below(end);
-        let last = (first + self.random.below(longest)).min(end - 1);
-        let number = 1 + self.random.below(greatest);
-        Run { first, last, number }
-    }
-
-    /// Notes a piece, with a cut or without.
+    /// Notes a piece. A cut leaves the old log, or the new one if the note is accepted.
     fn note(&mut self, run: Run, cut: bool) {
         let mut raised = self.numbers.clone();
         for place in places(&run) {
             raised[place] = raised[place].max(run.number);
         }
-        let expected = if run_count(&raised) > 1_024 { 16 } else { 0 };
-        let end = 4 + 20 * self.noted.len();
-        if cut && (expected != 0 || self.random.once_in(2)) {
-            // The old log is left, with anything past its entries.
-            self.random.fill(&mut self.log[end..end + 60]);
-        } else {
+        let expected = match (run_count(&raised) > RUNS, self.noted.len() == ENTRIES) {
+            (true, _) => 16,
+            (false, true) => 17,
+            (false, false) => 0,
+        };
+        let old_left = cut && (expected != 0 || self.random.once_in(2));
+        if !old_left {
+            let Run { first, last, number } = run;
+            let (length, image_length) = (last - first + 1, self.image.len() as u64);
             let mut new_log = self.log.clone();
-            let length = run.last - run.first + 1;
-            let image_length = self.image.len() as u64;
-            let answered =
-                note(&mut self.map, &mut self.log, run.first, length, run.number, image_length);
+            let (map, log) = (&mut self.map, &mut self.log);
+            let answered = self.beside.note(map, log, first, length, number, image_length);
             assert_eq!(answered, expected);
             if answered == 0 {
+                let end = self.end_of_entries();
+                new_log[end..end + 8].copy_from_slice(&first.to_be_bytes());
+                new_log[end + 8..end + 16].copy_from_slice(&last.to_be_bytes());
+                new_log[end + 16..end + 20].copy_from_slice(&(number as u32).to_be_bytes());
                 self.noted.push(run);
                 self.numbers = raised;
                 new_log[..4].copy_from_slice(&(self.noted.len() as u32).to_be_bytes());
-                new_log[end..end + 8].copy_from_slice(&run.first.to_be_bytes());
-                new_log[end + 8..end + 16].copy_from_slice(&run.last.to_be_bytes());
-                new_log[end + 16..end + 20].copy_from_slice(&(run.number as u32).to_be_bytes());
             }
             assert!(self.log == new_log);
         }
         if cut {
+            self.scribble();
             self.restart();
         }
         self.check();
     }
 
-    /// Writes a piece, with a cut or without.
+    fn end_of_entries(&self) -> usize {
+        4 + 20 * self.noted.len()
+    }
+
+    /// After a cut note the bytes past the entries are anything.
+    fn scribble(&mut self) {
+        let end = self.end_of_entries();
+        let reach = self.random.pick(&[3, 20, 60, LOG_BYTES]);
+        self.random.fill(&mut self.log[end..LOG_BYTES.min(end + reach)]);
+    }
+
+    /// Writes a piece. A cut leaves anything at the places that the write would store.
     fn write(&mut self, piece: &mut Piece, cut: bool) {
         let run = piece.run;
         let bytes: Vec<u8> = places(&run).map(|place| byte(run.number, place)).collect();
@@ -121,7 +166,8 @@ impl Stripe<'_> {
             self.image = new_image;
             self.restart();
         } else {
-            let answered = write(&self.map, &mut self.image, run.first, &bytes, run.number);
+            let answered =
+                self.beside.write(&self.map, &mut self.image, run.first, &bytes, run.number);
             assert_eq!(answered, if refused { 18 } else { 0 });
             assert!(self.image == new_image);
         }
@@ -135,9 +181,11 @@ impl Stripe<'_> {
     fn restart(&mut self) {
         self.random.fill(&mut self.map);
         while self.random.once_in(4) {
-            self.random.fill(&mut self.map);
+            assert_eq!(self.beside.restart(&mut self.map, &self.log), 0);
+            let lost = self.random.below(MAP_BYTES as u64) as usize;
+            self.random.fill(&mut self.map[lost..]);
         }
-        assert_eq!(restart(&mut self.map, &self.log), 0);
+        assert_eq!(self.beside.restart(&mut self.map, &self.log), 0);
     }
 
     /// The log has the noted entries, and each byte's number is the greatest over it.
@@ -188,32 +236,4 @@ impl Stripe<'_> {
 fn run_count(numbers: &[u64]) -> usize {
     let starts = |place: &usize| *place == 0 || numbers[*place] != numbers[*place - 1];
     (0..numbers.len()).filter(starts).filter(|place| numbers[*place] != 0).count()
-}
-
-/// Few numbers, so that many pieces share theirs and some are written without their own note.
-#[test]
-fn crowded_runs() {
-    for_seeds(0..150, |random| {
-        let image_length = 1 + random.below(64) as usize;
-        let mut stripe = Stripe::new(random, image_length);
-        let runs = (0..10).map(|_| stripe.piece(24, 5)).collect();
-        stripe.play(runs, 60);
-    });
-}
-
-/// A run near 1,024 runs, where notes are refused with 16 and restarts are not.
-#[test]
-fn a_run_at_the_limit_of_runs() {
-    for_seeds(0..1, |random| {
-        let mut stripe = Stripe::new(random, 2_100);
-        let apart = |place: u64| Run { first: 2 * place, last: 2 * place, number: 3 };
-        for place in 0..1_025 {
-            stripe.note(apart(place), false);
-        }
-        assert_eq!(stripe.noted.len(), 1_024);
-        stripe.note(apart(1_024), true);
-        let mut runs = stripe.noted.clone();
-        runs.extend((0..60).map(|_| stripe.piece(3, 6)));
-        stripe.play(runs, 200);
-    });
 }

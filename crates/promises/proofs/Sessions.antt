@@ -1,0 +1,117 @@
+-- Demand 2: a session on bytes is a session of the rules, call by call, and its table stays sound. The thought: a call's bytes decode to the rules' table.
+use Prim.Native.Nat.{ℕ, _+_, _*_, _≤_}
+use native.Mathlib.Omega.{arith}
+use mathlib.Core.Bool.{Bool, true, false, not, _&&_, cond}
+use mathlib.Core.List.{List, [], _∷_, _++_, map}
+use mathlib.Core.Path.{_≡_, refl, sym, ap, ap₂, subst, _∙_}
+use lib.Dec.{T, eqb}
+use lib.ListN.{length, getD, drop, replicate, length-replicate}
+use borrow.Author.Tests.{le-ltb, eq-eqb}
+use Rattle.common.specs.Counters.{width}
+use Rattle.common.specs.Tests.{zeros}
+use Rattle.common.proofs.Bools.{never, and-left, and-right, true-is}
+use Rattle.xdr.specs.Be.{be}
+use Rattle.xdr.specs.Layout.{fields}
+use Rattle.xdr.specs.Array.{array}
+use Rattle.xdr.specs.Tab.{tab}
+use Rattle.runs.proofs.Blank.{zeros-from, blank, be-blank}
+use Rattle.table.specs.Table.{Table, empty}
+use Rattle.table.specs.Sound.{sound}
+use Rattle.table.specs.Bytes.{lockLayout, lockOf, lastsLayout, tableSize, tableOf, recordsEnd, soundTableBytes}
+use Rattle.table.specs.Places.{Holds}
+use Rattle.locks.specs.declared.Message.{Message}
+use Rattle.locks.specs.Settle.{Event, settle}
+use Rattle.locks.specs.Refusals.{refusal}
+use Rattle.locks.specs.Serve.{Outcome, change, answered, accepted, refused, serve}
+use Rattle.locks.specs.Session.{after, events}
+use Rattle.locks.specs.Events.{eventsSize}
+use Rattle.locks.proofs.Served.{serve-sound}
+use Rattle.locks.proofs.Sessions.{empty-sound}
+use Rattle.serve.specs.declared.Answer.{Answer}
+use Rattle.serve.specs.Serves.{Leaves}
+use Rattle.gilboreth.specs.Messages.{outcome}
+use Rattle.promises.specs.Session.{Session, done, call}
+
+-- Of sound bytes the outcome is the rules'
+module _ (m : Message) (t b : List ℕ) (s : soundTableBytes t ≡ true) (h : eventsSize width ≤ length b) where
+  pub outcome-is : outcome m t b ≡ serve (tableOf width t) m
+  unfolding outcome
+  outcome-is = rw (le-ltb (length b) (eventsSize width) h, s)
+
+bytes-sound : (t : List ℕ) → soundTableBytes t ≡ true → T (sound (tableOf width t))
+unfolding soundTableBytes
+bytes-sound t e =
+    let f = and-right (eqb (length t) (tableSize width)) (sound (tableOf width t) && zeros (drop (recordsEnd width t) t)) e in
+    rw (and-left (sound (tableOf width t)) (zeros (drop (recordsEnd width t) t)) f) tt
+
+-- Bytes that hold a sound table are sound
+holds-sound : (n : ℕ) (X : Table) (u : List ℕ) → Holds n X u → T (sound X) → soundTableBytes u ≡ true
+unfolding soundTableBytes
+holds-sound n X u H s =
+    rw (eq-eqb (length u) (tableSize width) (H .shape .size), true-is (sound (tableOf width u)) (subst (λ (x : Table). T (sound x)) (sym (H .says)) s))
+    (zeros-from u (recordsEnd width u) (H .shape .zeros))
+
+-- After a call the bytes are sound, and decode to the rules' table
+pub record Follows (X : Table) (u : List ℕ) : Type 0 where
+  pub says : tableOf width u ≡ X
+  pub sound : soundTableBytes u ≡ true
+
+refused-same : (X : Table) (m : Message) → eqb (serve X m .refusal) 0 ≡ false → serve X m .table ≡ X
+unfolding serve
+refused-same X m = go (eqb (refusal X m) 0)
+  where
+    go : (x : Bool) → eqb ((cond x (accepted (answered X m) (settle (change X m))) (refused X (refusal X m))) .refusal) 0 ≡ false → (cond x (accepted (answered X m) (settle (change X m))) (refused X (refusal X m))) .table ≡ X
+    go true e = never (sym e)
+    go false e = refl
+
+follows : (m : Message) (t b : List ℕ) (r : Answer) (u c : List ℕ) → soundTableBytes t ≡ true → eventsSize width ≤ length b → Leaves (outcome m t b) t b r u c → Follows (serve (tableOf width t) m .table) u
+follows m t b r u c s h L = go (eqb (o .refusal) 0) refl
+  where
+    o : Outcome
+    o = serve (tableOf width t) m
+
+    K : Leaves o t b r u c
+    K = subst (λ (x : Outcome). Leaves x t b r u c) (outcome-is m t b s h) L
+
+    after-sound : T (sound (o .table))
+    after-sound = serve-sound (tableOf width t) m (bytes-sound t s)
+
+    go : (x : Bool) → eqb (o .refusal) 0 ≡ x → Follows (o .table) u
+    go true e = let H = K .table (rw e tt) in record { says = H .says; sound = holds-sound (length (o .table .locks)) (o .table) u H after-sound }
+    go false e =
+        let same : u ≡ t = K .same (rw e tt) in
+        record { says = ap (tableOf width) same ∙ sym (refused-same (tableOf width t) m e); sound = ap soundTableBytes same ∙ s }
+
+-- A session of the entries is one of the rules
+pub session-follows : {t v : List ℕ} {ms : List Message} {es : List Event} → Session t ms es v → soundTableBytes t ≡ true → Follows (after (tableOf width t) ms) v
+session-follows done s = record { says = refl; sound = s }
+session-follows (call {t = t} {u = u} {v = v} {b = b} {c = c} {m = m} {ms = ms} {r = r} h L S) s =
+    let F = follows m t b r u c s h L in
+    subst (λ (x : Table). Follows (after x ms) v) (F .says) (session-follows S (F .sound))
+
+pub session-events : {t v : List ℕ} {ms : List Message} {es : List Event} → Session t ms es v → soundTableBytes t ≡ true → es ≡ events (tableOf width t) ms
+session-events done s = refl
+session-events (call {t = t} {u = u} {b = b} {c = c} {m = m} {ms = ms} {r = r} {es = es} h L S) s =
+    let F = follows m t b r u c s h L in
+    ap₂ (λ (x y : List Event). x ++ y) (ap (λ (o : Outcome). o .events) (outcome-is m t b s h)) (session-events S (F .sound) ∙ ap (λ (x : Table). events x ms) (F .says))
+
+-- "All zeros is the empty table"
+fields-blank : (ws : List ℕ) (n at o : ℕ) → fields ws (replicate n 0) at o ≡ map (λ w. 0) ws
+unfolding fields
+fields-blank [] n at o = refl
+fields-blank (w ∷ ws) n at o = ap₂ (λ (x : ℕ) (l : List ℕ). x ∷ l) (be-blank w n (at + o)) (fields-blank ws n at (o + w))
+
+pub zeros-empty : (n : ℕ) → tableOf width (replicate n 0) ≡ empty
+unfolding array tab
+zeros-empty n =
+    λ i. record {
+      issued = be-blank 4 n 0 i;
+      lasts = fields-blank (lastsLayout width) n 4 0 i;
+      locks = map lockOf (tab (be-blank 4 n 68 i) (λ k. fields (lockLayout width) (replicate n 0) (72 + 40 * k) 0));
+    }
+
+pub zeros-sound : soundTableBytes (replicate (tableSize width) 0) ≡ true
+unfolding soundTableBytes
+zeros-sound =
+    rw (eq-eqb (length (replicate {A = ℕ} (tableSize width) 0)) (tableSize width) (length-replicate {A = ℕ} (tableSize width) 0), true-is (sound (tableOf width (replicate (tableSize width) 0))) (subst (λ (x : Table). T (sound x)) (sym (zeros-empty (tableSize width))) empty-sound))
+    (zeros-from (replicate (tableSize width) 0) (recordsEnd width (replicate (tableSize width) 0)) (λ b _. blank (tableSize width) b))

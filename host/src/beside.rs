@@ -1,0 +1,167 @@
+//! Calls under test beside the model. Both get the same buffers and numbers, and must agree on the
+//! answer and on every byte of every buffer, also of a refused call.
+//!
+//! The caller's buffers keep what the model made of them, which is then what the calls under test
+//! made of them too.
+
+use crate::calls::{Calls, MODEL};
+use crate::model::locks::{decode, Answer};
+use crate::model::serve::Message;
+use std::collections::BTreeSet;
+use std::fmt::{Arguments, Debug};
+
+pub struct Beside {
+    calls: Calls,
+    /// How many calls were answered with each number, 0 for accepted.
+    answers: [u64; 19],
+    /// The kind, mode and state of each event that came.
+    pub events: BTreeSet<[u32; 3]>,
+}
+
+impl Beside {
+    pub fn new(calls: Calls) -> Beside {
+        Beside { calls, answers: [0; 19], events: BTreeSet::new() }
+    }
+
+    fn compared(&self) -> u64 {
+        self.answers.iter().sum()
+    }
+
+    /// At least so many calls were compared, and their answers were these numbers and no others.
+    pub fn reached(&self, calls: u64, answers: &[usize]) {
+        assert!(self.compared() >= calls, "{} calls", self.compared());
+        let answered: Vec<usize> = (0..19).filter(|&answer| self.answers[answer] > 0).collect();
+        assert_eq!(answered, answers);
+    }
+
+    /// Serves one message. The table of an accepted one stays sound.
+    pub fn serve(&mut self, table: &mut [u8], events: &mut [u8], message: Message) -> Answer {
+        let (mut lent_table, mut lent_events) = (self.lend(table), self.lend(events));
+        let tested = self.calls.serve(lent_table.bytes(), lent_events.bytes(), message);
+        let answer = MODEL.serve(table, events, message);
+        let buffers = [("table", lent_table, &*table), ("events", lent_events, &*events)];
+        self.agree(format_args!("{message:?}"), tested, answer, &buffers);
+        self.answers[answer.refusal as usize] += 1;
+        if answer.refusal == 0 {
+            assert!(decode(table).is_some(), "{message:?} leaves a table that isn't sound");
+            let integer = |at: usize| u32::from_be_bytes(events[at..at + 4].try_into().unwrap());
+            let starts = (0..answer.events as usize).map(|place| 4 + 44 * place);
+            self.events.extend(starts.map(|at| [integer(at), integer(at + 16), integer(at + 20)]));
+        }
+        answer
+    }
+
+    pub fn note(
+        &mut self,
+        map: &mut [u8],
+        log: &mut [u8],
+        first: u64,
+        length: u64,
+        number: u64,
+        image_length: u64,
+    ) -> u64 {
+        let (mut lent_map, mut lent_log) = (self.lend(map), self.lend(log));
+        let (m, l) = (lent_map.bytes(), lent_log.bytes());
+        let tested = (self.calls.note)(m, l, first, length, number, image_length);
+        let answer = (MODEL.note)(map, log, first, length, number, image_length);
+        self.agree(
+            format_args!(
+                "note first {first}, length {length}, number {number}, image length {image_length}"
+            ),
+            tested,
+            answer,
+            &[("map", lent_map, map), ("log", lent_log, log)],
+        );
+        self.answers[answer as usize] += 1;
+        answer
+    }
+
+    pub fn write(
+        &mut self,
+        map: &[u8],
+        image: &mut [u8],
+        first: u64,
+        piece: &[u8],
+        number: u64,
+    ) -> u64 {
+        let (mut lent_map, mut lent_image) = (self.lend(map), self.lend(image));
+        let mut lent_piece = self.lend(piece);
+        let (m, i, p) = (lent_map.bytes(), lent_image.bytes(), lent_piece.bytes());
+        let tested = (self.calls.write)(m, i, first, p, number);
+        let answer = (MODEL.write)(map, image, first, piece, number);
+        let (length, image_length) = (piece.len(), image.len());
+        self.agree(
+            format_args!(
+                "write first {first}, length {length}, number {number}, image length {image_length}"
+            ),
+            tested,
+            answer,
+            &[("map", lent_map, map), ("image", lent_image, image), ("piece", lent_piece, piece)],
+        );
+        self.answers[answer as usize] += 1;
+        answer
+    }
+
+    pub fn restart(&mut self, map: &mut [u8], log: &[u8]) -> u64 {
+        let (mut lent_map, mut lent_log) = (self.lend(map), self.lend(log));
+        let tested = (self.calls.restart)(lent_map.bytes(), lent_log.bytes());
+        let answer = (MODEL.restart)(map, log);
+        let buffers = [("map", lent_map, &*map), ("log", lent_log, log)];
+        self.agree(format_args!("restart"), tested, answer, &buffers);
+        self.answers[answer as usize] += 1;
+        answer
+    }
+
+    /// A copy to lend. From call to call it begins at another address modulo 16.
+    fn lend(&self, buffer: &[u8]) -> Lent {
+        Lent::new(buffer, 1 + self.compared() as usize % 16)
+    }
+
+    /// Both answers and all bytes are the same; if not, the test ends with the call and what differs.
+    fn agree<A: PartialEq + Debug>(
+        &self,
+        call: Arguments,
+        tested: A,
+        answer: A,
+        buffers: &[(&str, Lent, &[u8])],
+    ) {
+        let place = self.compared();
+        assert!(tested == answer, "call {place}, {call}: {tested:?}, by the model {answer:?}");
+        for (name, lent, bytes) in buffers {
+            if let Some(at) = lent.differs(bytes) {
+                panic!("call {place}, {call}: byte {at} of the {name} isn't the model's");
+            }
+        }
+    }
+}
+
+/// A copy of a buffer between guards, lent to the calls under test in the buffer's place.
+/// No call touches a byte before or after what it is lent.
+struct Lent {
+    guarded: Vec<u8>,
+    start: usize,
+}
+
+const GUARD: [u8; 16] = [0xA5; 16];
+
+impl Lent {
+    fn new(buffer: &[u8], start: usize) -> Lent {
+        Lent { guarded: [&GUARD[..start], buffer, &GUARD[..]].concat(), start }
+    }
+
+    fn bytes(&mut self) -> &mut [u8] {
+        let end = self.guarded.len() - GUARD.len();
+        &mut self.guarded[self.start..end]
+    }
+
+    /// The first byte that differs from the buffer as the model left it; before byte 0 and after
+    /// the last one stand the guards.
+    fn differs(&self, buffer: &[u8]) -> Option<isize> {
+        let expected = Lent::new(buffer, self.start).guarded;
+        if self.guarded == expected {
+            return None;
+        }
+        let at = (0..expected.len()).find(|&at| self.guarded[at] != expected[at])?;
+        Some(at as isize - self.start as isize)
+    }
+}

@@ -1,0 +1,158 @@
+//! What the calls cost: the library beside the shipped Rust, on the same inputs in one run.
+
+mod case;
+
+use case::{clock, micros, Case, ROUNDS};
+use gilboreth_host::model::locks::{encode, EVENTS_BYTES};
+use gilboreth_host::model::modes::{Mode, State};
+use gilboreth_host::model::runs::Run;
+use gilboreth_host::model::stripe::{encode_log, encode_map, MAP_BYTES};
+use gilboreth_host::model::table::{Record, Table};
+use gilboreth_host::model::EOF;
+use gilboreth_host::random::Random;
+
+fn main() {
+    println!("The library beside the shipped Rust, {}.", std::env::consts::ARCH);
+    println!("Whether it runs on such a processor or under emulation, this program can't tell.");
+    println!("Microseconds a call: the median of {ROUNDS} rounds in turn, after a warm-up.");
+    println!("Buffers are prepared anew before each call, outside of the timed part. Each call is");
+    println!("timed alone, and the clock's own {:.3} are taken off.", micros(clock()));
+    println!("* the library takes more than 2 times the Rust.");
+    println!();
+    println!("{:48} {:>10} {:>10} {:>6}   {:>10}", "call", "library", "Rust", "ratio", "memcpy");
+    notes();
+    writes();
+    restarts();
+    requests();
+    acknowledge();
+}
+
+/// Runs of three bytes with number 5 and two bytes between.
+fn apart(count: u64) -> Vec<Run> {
+    (0..count).map(|place| Run { first: 5 * place, last: 5 * place + 2, number: 5 }).collect()
+}
+
+/// A piece in the middle that meets two runs, with a log of as many entries.
+fn notes() {
+    for count in [0, 100, 1_000] {
+        let runs = apart(count);
+        let first = 5 * (count / 2) + 1;
+        Case {
+            name: format!("note at {count} runs"),
+            buffers: [encode_map(&runs), encode_log(&runs)],
+            call: &|calls, map, log| (calls.note)(map, log, first, 6, 6, 10_000),
+        }
+        .row();
+    }
+}
+
+/// A piece in the middle of the image. Over 1,000 runs, every other one has its number.
+fn writes() {
+    for (length, name) in [(4_096, "4 KiB"), (1_048_576, "1 MiB")] {
+        for count in [1, 1_000] {
+            let border = |place: u64| 100 + length * place / count;
+            let run = |place: u64| Run {
+                first: border(place),
+                last: border(place + 1) - 1,
+                number: 5 + place % 2,
+            };
+            let runs: Vec<Run> = (0..count).map(run).collect();
+            let piece = vec![0xEE; length as usize];
+            let half = if count == 1 { "" } else { "s, half of it stored" };
+            Case {
+                name: format!("write of {name} over {count} run{half}"),
+                buffers: [encode_map(&runs), vec![0; length as usize + 200]],
+                call: &|calls, map, image| (calls.write)(map, image, 100, &piece, 5),
+            }
+            .row_beside_memcpy();
+        }
+    }
+}
+
+/// Logs of 2,048 entries. The disjoint ones touch two by two and have one number.
+fn restarts() {
+    let mut random = Random::new(0);
+    let run = |first, length, number| Run { first, last: first + length - 1, number };
+    let disjoint = |place: u64| run(10 * (place / 2) + 4 * (place % 2), 4, 1);
+    let nested = |place: u64| run(place, 10_000 - 2 * place, 1 + place / 4);
+    let drawn =
+        |_| run(random.below(1 << 20), 1 + random.below(1 << 14), 1 + random.below(1 << 16));
+    let touching = |place: u64| run(3 * place, 3, 1);
+    let logs: [(&str, Vec<Run>); 4] = [
+        ("disjoint entries, 1,024 runs", (0..2_048).map(disjoint).collect()),
+        ("nested entries", (0..2_048).map(nested).collect()),
+        ("entries drawn at random", (0..2_048).map(drawn).collect()),
+        ("a chain of one number, falling", (0..2_048).rev().map(touching).collect()),
+    ];
+    for (name, entries) in logs {
+        Case {
+            name: format!("restart, {name}"),
+            buffers: [vec![0; MAP_BYTES], encode_log(&entries)],
+            call: &|calls, map, log| (calls.restart)(map, log),
+        }
+        .row();
+    }
+}
+
+/// A table of so many records on stripe 0, with handles and numbers from 1.
+fn table(count: u64, record: impl Fn(Record) -> Record) -> Vec<u8> {
+    let plain = |handle| Record {
+        handle,
+        client: 0,
+        stripe: 0,
+        mode: Mode::NBW,
+        state: State::Granted,
+        number: handle,
+        first: 0,
+        last: 9,
+    };
+    let records = (1..=count).map(plain).map(record).collect();
+    let mut table = Table { issued: 2 * count, records, ..Table::default() };
+    table.numbers = [count; 16];
+    encode(&table)
+}
+
+/// A request for NBW on [0,9] of stripe 0, beside locks that it doesn't meet or among records that
+/// it meets.
+fn requests() {
+    let row = |name: String, table: Vec<u8>| {
+        Case {
+            name,
+            buffers: [table, vec![0; EVENTS_BYTES]],
+            call: &|calls, table, events| (calls.request)(table, events, 1, 0, 2, 0, 9).refusal,
+        }
+        .row();
+    };
+    let far = |r: Record| Record { first: 100 * r.handle, last: 100 * r.handle + 9, ..r };
+    for count in [1, 50, 200, 250] {
+        row(format!("request beside {count} held, one stripe"), table(count, far));
+    }
+    for count in [1, 50, 200, 250] {
+        let striped = table(count, |r| Record { stripe: r.handle % 16, ..far(r) });
+        row(format!("request beside {count} held, 16 stripes"), striped);
+    }
+    for count in [1, 50, 125, 200, 250] {
+        let canceling = table(count, |r| Record { state: State::Canceling, ..r });
+        row(format!("request among {count} canceling NBW"), canceling);
+    }
+    for count in [1, 50, 200, 250, 254] {
+        row(format!("request after one held and {count} waiting"), waiting(count));
+    }
+}
+
+/// One NBW over all bytes, asked, and after it so many requests that wait.
+fn waiting(count: u64) -> Vec<u8> {
+    table(1 + count, |r| match r.handle {
+        1 => Record { state: State::Asked, last: EOF, ..r },
+        _ => Record { state: State::Waiting, number: 0, ..r },
+    })
+}
+
+fn acknowledge() {
+    Case {
+        name: "acknowledge that settles 200 waiters".to_string(),
+        buffers: [waiting(200), vec![0; EVENTS_BYTES]],
+        call: &|calls, table, events| (calls.acknowledge)(table, events, 0, 1).refusal,
+    }
+    .row();
+}

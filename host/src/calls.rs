@@ -1,0 +1,65 @@
+//! The seven calls as one value, so that a test or a measurement is written once for all who have
+//! them: the model, the proved library, and the shipped Rust.
+
+use crate::model::locks::Answer;
+use crate::model::serve::Message;
+use crate::{entries, model, shipped};
+
+#[derive(Clone, Copy)]
+pub struct Calls {
+    pub request: fn(&mut [u8], &mut [u8], u64, u64, u64, u64, u64) -> Answer,
+    pub acknowledge: fn(&mut [u8], &mut [u8], u64, u64) -> Answer,
+    pub downgrade: fn(&mut [u8], &mut [u8], u64, u64) -> Answer,
+    pub release: fn(&mut [u8], &mut [u8], u64, u64) -> Answer,
+    pub note: fn(&mut [u8], &mut [u8], u64, u64, u64, u64) -> u64,
+    pub write: fn(&[u8], &mut [u8], u64, &[u8], u64) -> u64,
+    pub restart: fn(&mut [u8], &[u8]) -> u64,
+}
+
+impl Calls {
+    /// Makes the call that a message names.
+    pub fn serve(&self, table: &mut [u8], events: &mut [u8], message: Message) -> Answer {
+        match message {
+            Message::Request { client, stripe, mode, first, last } => {
+                (self.request)(table, events, client, stripe, mode, first, last)
+            }
+            Message::Acknowledge { client, handle } => {
+                (self.acknowledge)(table, events, client, handle)
+            }
+            Message::Downgrade { client, handle } => {
+                (self.downgrade)(table, events, client, handle)
+            }
+            Message::Release { client, handle } => (self.release)(table, events, client, handle),
+        }
+    }
+}
+
+pub const MODEL: Calls = Calls {
+    request: model::locks::request,
+    acknowledge: model::locks::acknowledge,
+    downgrade: model::locks::downgrade,
+    release: model::locks::release,
+    note: model::stripe::note,
+    write: model::stripe::write,
+    restart: model::stripe::restart,
+};
+
+pub const LIBRARY: Calls = Calls {
+    request: entries::request,
+    acknowledge: entries::acknowledge,
+    downgrade: entries::downgrade,
+    release: entries::release,
+    note: entries::note,
+    write: entries::write,
+    restart: entries::restart,
+};
+
+pub const SHIPPED: Calls = Calls {
+    request: shipped::locks::request,
+    acknowledge: shipped::locks::acknowledge,
+    downgrade: shipped::locks::downgrade,
+    release: shipped::locks::release,
+    note: shipped::stripe::note,
+    write: shipped::stripe::write,
+    restart: shipped::stripe::restart,
+};

@@ -1,0 +1,53 @@
+//! The shipped Rust beside the model, on the scenes that the library plays.
+
+mod lock_scenes;
+mod messages;
+mod stripe_scenes;
+mod tables;
+
+use gilboreth_host::beside::Beside;
+use gilboreth_host::calls::SHIPPED;
+
+#[test]
+fn locks() {
+    use lock_scenes::{damage, drawn, edges, limits, sessions};
+    let mut shipped = Beside::new(SHIPPED);
+    sessions::play(&mut shipped, 0..40, 4);
+    sessions::play(&mut shipped, 0..4, 9);
+    limits::full_tables(&mut shipped, 0..2);
+    limits::highest_handles(&mut shipped, 0..40);
+    drawn::small(&mut shipped, 0..500);
+    drawn::large(&mut shipped, 0..10);
+    damage::rules(&mut shipped);
+    damage::flips(&mut shipped, 0..200);
+    damage::each_bit(&mut shipped);
+    damage::each_record(&mut shipped);
+    damage::pairs(&mut shipped, 0..500);
+    damage::each_byte_after(&mut shipped);
+    edges::numbers(&mut shipped);
+    edges::lengths(&mut shipped);
+    shipped.reached(80_000, &[0, 1, 2, 3, 4, 5, 6, 7, 8, 9, 10, 11]);
+}
+
+#[test]
+fn stripe() {
+    use stripe_scenes::{cuts, damage, edges, limits, pieces};
+    let mut shipped = Beside::new(SHIPPED);
+    pieces::small(&mut shipped, 0..200);
+    pieces::large(&mut shipped, 0..10);
+    cuts::crowded(&mut shipped, 0..100);
+    cuts::at_the_limit_of_runs(&mut shipped, 0..1);
+    cuts::at_the_limit_of_entries(&mut shipped, 0..1);
+    limits::notes(&mut shipped);
+    limits::drawn_notes(&mut shipped, 0..20);
+    limits::restarts(&mut shipped, 0..1);
+    limits::full_logs(&mut shipped, 0..2);
+    edges::notes(&mut shipped);
+    edges::writes(&mut shipped);
+    edges::lengths(&mut shipped);
+    damage::flips(&mut shipped, 0..100);
+    damage::each_bit(&mut shipped);
+    damage::each_run(&mut shipped);
+    damage::each_byte_after(&mut shipped);
+    shipped.reached(90_000, &[0, 12, 13, 14, 15, 16, 17, 18]);
+}

@@ -1,0 +1,151 @@
+//! The library's note, write and restart beside the model, answer by answer and byte by byte.
+
+mod stripe_scenes;
+
+use gilboreth_host::beside::Beside;
+use gilboreth_host::calls::LIBRARY;
+use gilboreth_host::model::locks::{EVENTS_BYTES, TABLE_BYTES};
+use gilboreth_host::model::serve::Message;
+use gilboreth_host::model::stripe::{LOG_BYTES, MAP_BYTES};
+use stripe_scenes::{cuts, damage, edges, limits, pieces};
+
+#[test]
+fn small_pieces() {
+    let mut library = Beside::new(LIBRARY);
+    pieces::small(&mut library, 0..2_000);
+    library.reached(120_000, &[0, 14, 15, 18]);
+}
+
+#[test]
+fn large_pieces() {
+    let mut library = Beside::new(LIBRARY);
+    pieces::large(&mut library, 0..50);
+    library.reached(3_000, &[0, 14, 15, 18]);
+}
+
+#[test]
+fn cuts() {
+    let mut library = Beside::new(LIBRARY);
+    cuts::crowded(&mut library, 0..1_000);
+    library.reached(60_000, &[0, 18]);
+}
+
+#[test]
+fn cuts_at_the_limit_of_runs() {
+    let mut library = Beside::new(LIBRARY);
+    cuts::at_the_limit_of_runs(&mut library, 0..1);
+    library.reached(1_000, &[0, 16, 18]);
+}
+
+#[test]
+fn cuts_at_the_limit_of_entries() {
+    let mut library = Beside::new(LIBRARY);
+    cuts::at_the_limit_of_entries(&mut library, 0..1);
+    library.reached(2_000, &[0, 17]);
+}
+
+#[test]
+fn notes_at_the_limits() {
+    let mut library = Beside::new(LIBRARY);
+    limits::notes(&mut library);
+    library.reached(144, &[0, 16, 17]);
+}
+
+#[test]
+fn drawn_notes_at_the_limits() {
+    let mut library = Beside::new(LIBRARY);
+    limits::drawn_notes(&mut library, 0..60);
+    library.reached(720, &[0, 16, 17, 18]);
+}
+
+#[test]
+fn restarts_at_the_limits() {
+    let mut library = Beside::new(LIBRARY);
+    limits::restarts(&mut library, 0..4);
+    library.reached(48, &[0, 16]);
+}
+
+#[test]
+fn restarts_of_full_logs() {
+    let mut library = Beside::new(LIBRARY);
+    limits::full_logs(&mut library, 0..6);
+    library.reached(48, &[0, 16]);
+}
+
+#[test]
+fn numbers_of_notes() {
+    let mut library = Beside::new(LIBRARY);
+    edges::notes(&mut library);
+    library.reached(29_040, &[0, 14, 15]);
+}
+
+#[test]
+fn numbers_of_writes() {
+    let mut library = Beside::new(LIBRARY);
+    edges::writes(&mut library);
+    library.reached(7_920, &[0, 14, 15, 18]);
+}
+
+#[test]
+fn lengths() {
+    let mut library = Beside::new(LIBRARY);
+    edges::lengths(&mut library);
+    library.reached(960, &[0, 12, 13, 14, 18]);
+}
+
+#[test]
+fn flipped_bits() {
+    let mut library = Beside::new(LIBRARY);
+    damage::flips(&mut library, 0..500);
+    library.reached(24_000, &[0, 12, 13, 18]);
+}
+
+#[test]
+fn each_bit() {
+    let mut library = Beside::new(LIBRARY);
+    damage::each_bit(&mut library);
+    library.reached(4_800, &[0, 12, 13, 18]);
+}
+
+#[test]
+fn each_run() {
+    let mut library = Beside::new(LIBRARY);
+    damage::each_run(&mut library);
+    library.reached(6_144, &[12, 13]);
+}
+
+#[test]
+fn each_byte_after_the_runs() {
+    let mut library = Beside::new(LIBRARY);
+    damage::each_byte_after(&mut library);
+    library.reached(40_000, &[12]);
+}
+
+/// Client 1 is granted its lock while client 0, canceling, has not flushed yet. The bytes of the
+/// later grant are stored, the server is cut and restarts, and then the old flush arrives.
+#[test]
+fn the_old_flush_arrives_last_after_a_restart() {
+    let mut library = Beside::new(LIBRARY);
+    let (mut table, mut events) = (vec![0; TABLE_BYTES], vec![0; EVENTS_BYTES]);
+    let mut served = |library: &mut Beside, message| {
+        assert_eq!(library.serve(&mut table, &mut events, message).refusal, 0);
+        // The number of its only event.
+        u64::from(u32::from_be_bytes(events[28..32].try_into().unwrap()))
+    };
+    let request =
+        |client, first, last| Message::Request { client, stripe: 0, mode: 2, first, last };
+    let old = served(&mut library, request(0, 0, 9));
+    served(&mut library, request(1, 4, 7));
+    let later = served(&mut library, Message::Acknowledge { client: 0, handle: 1 });
+    assert_eq!((old, later), (1, 2));
+
+    let (mut map, mut log) = (vec![0; MAP_BYTES], vec![0; LOG_BYTES]);
+    let mut image = *b"..........";
+    assert_eq!(library.note(&mut map, &mut log, 4, 4, later, 10), 0);
+    assert_eq!(library.write(&map, &mut image, 4, b"LLLL", later), 0);
+    map.fill(0xEE);
+    assert_eq!(library.restart(&mut map, &log), 0);
+    assert_eq!(library.note(&mut map, &mut log, 0, 10, old, 10), 0);
+    assert_eq!(library.write(&map, &mut image, 0, b"OOOOOOOOOO", old), 0);
+    assert_eq!(&image, b"OOOOLLLLOO");
+}

@@ -1,0 +1,84 @@
+//! Maps and logs with flipped bits.
+
+use super::{apart, drawn};
+use gilboreth_host::beside::Beside;
+use gilboreth_host::model::runs::map_of;
+use gilboreth_host::model::stripe::{encode_log, encode_map, MAP_BYTES};
+use gilboreth_host::random::{for_seeds, Random};
+use std::ops::Range;
+
+/// One to three flipped bits, most often among the runs and entries.
+pub fn flips(beside: &mut Beside, seeds: Range<u64>) {
+    for_seeds(seeds, |random| {
+        let runs = map_of(&drawn(random, 8, 40, 12, 3));
+        let entries = drawn(random, 8, 40, 12, 3);
+        for _ in 0..16 {
+            let (mut map, mut log) = (encode_map(&runs), encode_log(&entries));
+            let used = 4 + 20 * runs.len();
+            let (damaged, used) =
+                if random.once_in(2) { (&mut map, used) } else { (&mut log, 164) };
+            for _ in 0..1 + random.below(3) {
+                flip(random, damaged, used);
+            }
+            let (first, number) = (random.below(40), 1 + random.below(4));
+            let length = 1 + random.below(40 - first);
+            let piece = vec![0xEE; length as usize];
+            beside.write(&map, &mut [0; 40], first, &piece, number);
+            beside.restart(&mut vec![0xEE; MAP_BYTES], &log);
+            beside.note(&mut map, &mut log, first, length, number, 40);
+        }
+    });
+}
+
+fn flip(random: &mut Random, bytes: &mut [u8], used: usize) {
+    let reach = if random.once_in(8) { bytes.len() } else { used + 4 };
+    let at = random.below(reach as u64) as usize;
+    bytes[at] ^= 1 << random.below(8);
+}
+
+/// Each bit of a map's and a log's count and first runs, one at a time.
+pub fn each_bit(beside: &mut Beside) {
+    let mut random = Random::new(0);
+    let runs = map_of(&drawn(&mut random, 6, 40, 12, 3));
+    let entries = drawn(&mut random, 6, 40, 12, 3);
+    for bit in 0..8 * 150 {
+        let (mut map, mut log) = (encode_map(&runs), encode_log(&entries));
+        map[bit / 8] ^= 1 << (bit % 8);
+        beside.write(&map, &mut [0; 40], 3, b"piece", 3);
+        beside.note(&mut map, &mut log, 3, 5, 3, 40);
+        let (mut map, mut log) = (encode_map(&runs), encode_log(&entries));
+        log[bit / 8] ^= 1 << (bit % 8);
+        beside.restart(&mut vec![0xEE; MAP_BYTES], &log);
+        beside.note(&mut map, &mut log, 3, 5, 3, 40);
+    }
+}
+
+/// Each byte after the runs of a map, one at a time: it must be zero.
+pub fn each_byte_after(beside: &mut Beside) {
+    let mut random = Random::new(0);
+    let runs = map_of(&drawn(&mut random, 6, 40, 12, 3));
+    let (mut map, mut log) = (encode_map(&runs), encode_log(&runs));
+    for at in 4 + 20 * runs.len()..MAP_BYTES {
+        map[at] = 1 << random.below(8);
+        assert_eq!(beside.note(&mut map, &mut log, 3, 5, 3, 40), 12, "byte {at}");
+        assert_eq!(beside.write(&map, &mut [0; 40], 3, b"piece", 3), 12, "byte {at}");
+        map[at] = 0;
+    }
+}
+
+/// Each run of a full map and each entry of a full log, one at a time, with number 0.
+pub fn each_run(beside: &mut Beside) {
+    let (mut map, mut log) = (encode_map(&apart(1_024, 1)), encode_log(&apart(2_048, 1)));
+    for number_at in (0..1_024).map(|place| 23 + 20 * place) {
+        map[number_at] = 0;
+        assert_eq!(beside.note(&mut map, &mut log, 0, 1, 1, 1), 12, "byte {number_at}");
+        assert_eq!(beside.write(&map, &mut [0], 0, b"A", 1), 12, "byte {number_at}");
+        map[number_at] = 1;
+    }
+    for number_at in (0..2_048).map(|place| 23 + 20 * place) {
+        log[number_at] = 0;
+        assert_eq!(beside.note(&mut map, &mut log, 0, 1, 1, 1), 13, "byte {number_at}");
+        assert_eq!(beside.restart(&mut map, &log), 13, "byte {number_at}");
+        log[number_at] = 1;
+    }
+}

@@ -1,0 +1,67 @@
+//! Buffers one byte short and one long, and numbers at their limits, one past and near 2^64.
+
+use gilboreth_host::beside::Beside;
+use gilboreth_host::model::runs::Run;
+use gilboreth_host::model::stripe::{encode_log, encode_map, LOG_BYTES, MAP_BYTES};
+use gilboreth_host::model::{EOF, HIGHEST};
+
+const MOST: u64 = u64::MAX;
+const FIRSTS: [u64; 11] = [0, 1, 9, 10, 11, EOF - 1, EOF, EOF + 1, EOF + 2, MOST - 1, MOST];
+const LENGTHS: [u64; 11] = [0, 1, 2, 10, 11, EOF, EOF + 1, EOF + 2, EOF + 3, MOST - 1, MOST];
+const NUMBERS: [u64; 8] = [0, 1, 2, HIGHEST, HIGHEST + 1, HIGHEST + 2, HIGHEST + 3, MOST];
+const IMAGE_LENGTHS: [u64; 10] = [0, 1, 10, 11, EOF - 1, EOF, EOF + 1, EOF + 2, MOST - 1, MOST];
+
+/// No runs, some at both ends, and one over all bytes.
+fn lists() -> [Vec<Run>; 3] {
+    let ends = [(0, 4, 2), (5, 9, HIGHEST), (EOF - 1, EOF - 1, 1), (EOF, EOF, 2)];
+    let run = |(first, last, number)| Run { first, last, number };
+    [vec![], ends.map(run).to_vec(), vec![run((0, EOF, 1))]]
+}
+
+/// Every choice of first, length, number and image length.
+pub fn notes(beside: &mut Beside) {
+    for list in lists() {
+        for (first, length) in choices(&FIRSTS, &LENGTHS) {
+            for (number, image_length) in choices(&NUMBERS, &IMAGE_LENGTHS) {
+                let (mut map, mut log) = (encode_map(&list), encode_log(&list));
+                beside.note(&mut map, &mut log, first, length, number, image_length);
+            }
+        }
+    }
+}
+
+pub fn writes(beside: &mut Beside) {
+    for map in lists().map(|list| encode_map(&list)) {
+        for (first, number) in choices(&FIRSTS, &NUMBERS) {
+            for (length, image_length) in choices(&[0, 1, 2, 9, 10, 11], &[0, 1, 9, 10, 11]) {
+                let mut image = vec![0; image_length];
+                beside.write(&map, &mut image, first, &vec![0xEE; length], number);
+            }
+        }
+    }
+}
+
+/// Maps and logs of every wrong length near the right one, each with the other right and wrong.
+pub fn lengths(beside: &mut Beside) {
+    let map_lengths = [0, 3, 4, 24, MAP_BYTES - 1, MAP_BYTES, MAP_BYTES + 1, LOG_BYTES];
+    let log_lengths = [0, 3, 4, 24, LOG_BYTES - 1, LOG_BYTES, LOG_BYTES + 1, MAP_BYTES];
+    for list in lists() {
+        for (map_length, log_length) in choices(&map_lengths, &log_lengths) {
+            let (mut map, mut log) = (encode_map(&list), encode_log(&list));
+            map.resize(map_length, 0);
+            log.resize(log_length, 0);
+            beside.write(&map, &mut [0; 10], 3, b"piece", 2);
+            beside.write(&map, &mut [0; 10], 3, b"", 0);
+            beside.note(&mut map.clone(), &mut log.clone(), 3, 0, 0, 10);
+            beside.note(&mut map, &mut log, 3, 5, 3, 10);
+            beside.restart(&mut map, &log);
+        }
+    }
+}
+
+fn choices<'a, A: Copy, B: Copy>(
+    one: &'a [A],
+    other: &'a [B],
+) -> impl Iterator<Item = (A, B)> + 'a {
+    one.iter().flat_map(|&a| other.iter().map(move |&b| (a, b)))
+}

@@ -1,0 +1,54 @@
+//! Pieces with equal, smaller and greater numbers, noted and written in any order.
+
+use super::drawn;
+use gilboreth_host::beside::Beside;
+use gilboreth_host::model::runs::map_of;
+use gilboreth_host::model::stripe::{encode_log, encode_map};
+use gilboreth_host::random::{for_seeds, Random};
+use std::ops::Range;
+
+/// Small images, where pieces meet often.
+pub fn small(beside: &mut Beside, seeds: Range<u64>) {
+    for_seeds(seeds, |random| {
+        let image_length = 1 + random.below(64);
+        play(beside, random, image_length, 24);
+    });
+}
+
+/// Pieces of many bytes, stored by long stretches.
+pub fn large(beside: &mut Beside, seeds: Range<u64>) {
+    for_seeds(seeds, |random| {
+        let image_length = 1 + random.below(20_000);
+        play(beside, random, image_length, 8_000);
+    });
+}
+
+/// Sixty calls. The map and the log begin apart from each other, as no run would leave them.
+/// Some pieces are empty or go past the image, and some have number 0.
+fn play(beside: &mut Beside, random: &mut Random, image_length: u64, longest: u64) {
+    let count = random.below(12);
+    let mut map = encode_map(&map_of(&drawn(random, count, image_length, longest, 6)));
+    let count = random.below(12);
+    let mut log = encode_log(&drawn(random, count, image_length, longest, 6));
+    random.fill(&mut log[4 + 20 * count as usize..300]);
+    let mut image = vec![0; image_length as usize];
+    random.fill(&mut image);
+    let mut bytes = vec![0; longest as usize];
+    for _ in 0..60 {
+        let first = random.below(image_length + 1);
+        let mut length = random.below(longest);
+        if !random.once_in(8) {
+            length = length.min(image_length - first);
+        }
+        let number = random.below(8);
+        match random.below(16) {
+            0..=7 => beside.note(&mut map, &mut log, first, length, number, image_length),
+            8..=14 => {
+                let piece = &mut bytes[..length as usize];
+                random.fill(piece);
+                beside.write(&map, &mut image, first, piece, number)
+            }
+            _ => beside.restart(&mut map, &log),
+        };
+    }
+}
