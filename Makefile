@@ -8,7 +8,8 @@ run:
 	@tools/missing run 'the line program'
 
 bench:
-	@tools/missing bench 'the public entries, which it measures'
+	@rt staticlib gilboreth >&2
+	@tools/host run --release --bin bench
 
 example:
 	@tools/missing example 'the C header and the example daemon'

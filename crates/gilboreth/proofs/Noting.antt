@@ -24,7 +24,8 @@ use Rattle.runbytes.proofs.Facts.{MapFacts, map-facts, LogFacts, log-facts}
 use Rattle.stripe.specs.Refusals.{place, misplaced, misnumbered}
 use Rattle.stripe.proofs.Accepted.{placed, numbered, place-valid}
 use Rattle.pen.specs.Drawing.{Stored}
-use Rattle.gilboreth.specs.Note.{noteList, noteAnswer, noteEarly, noteMap, noteLog, Notes}
+use Rattle.gilboreth.specs.Note.{noteList, noteAnswer, noteMap, noteLog, Notes}
+use Rattle.gilboreth.specs.Early.{noteEarly}
 use Rattle.gilboreth.proofs.Filling.{filled}
 use Rattle.stripe.proofs.Placing.{piece-place}
 

@@ -2,7 +2,6 @@
 use Prim.Native.Nat.{ℕ}
 use mathlib.Core.Path.{_≡_}
 use mathlib.Core.List.{List}
-use lib.ListN.{take}
 use Rattle.common.specs.Counters.{width}
 use Rattle.common.specs.Refusals.{Rule, firstHit, leaves}
 use Rattle.runs.specs.Map.{raise}
@@ -15,10 +14,6 @@ noteList m l first len number image = noteRules (soundMapBytes m) (soundLogBytes
 
 unfoldable pub noteAnswer : List ℕ → List ℕ → ℕ → ℕ → ℕ → ℕ → ℕ
 noteAnswer m l first len number image = firstHit (noteList m l first len number image)
-
--- 12 to 15, which are judged before the new map is drawn
-unfoldable pub noteEarly : List ℕ → List ℕ → ℕ → ℕ → ℕ → ℕ → ℕ
-noteEarly m l first len number image = firstHit (take 4 (noteList m l first len number image))
 
 -- The buffers after it
 unfoldable pub noteMap : List ℕ → List ℕ → ℕ → ℕ → ℕ → ℕ → List ℕ

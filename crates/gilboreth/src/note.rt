@@ -10,7 +10,8 @@ ghost use Rattle.common.specs.Counters.{width};
 ghost use Rattle.xdr.specs.Be.{be};
 ghost use Rattle.runs.specs.Sound.{maxEntries};
 ghost use Rattle.runs.specs.Bytes.{logSize, appended};
-ghost use Rattle.gilboreth.specs.Note.{noteEarly, Notes};
+ghost use Rattle.gilboreth.specs.Note.{Notes};
+ghost use Rattle.gilboreth.specs.Early.{noteEarly};
 
 // Judges what a note can be refused for before its map is drawn: 12 to 15.
 fn note_early(map: &[u8], log: &[u8], first: u64, len: u64, number: u64, image: u64) -> u64

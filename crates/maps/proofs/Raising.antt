@@ -1,5 +1,5 @@
 -- A map raised by a piece: the runs that are left say what the map says from x on, so each run, and the gap before it, is drawn by itself.
-use Prim.Native.Nat.{ℕ, suc, _+_, _≤_, min, max}
+use Prim.Native.Nat.{ℕ, suc, _+_, _≤_, _<_, min, max}
 use native.Mathlib.Omega.{arith}
 use mathlib.Core.Path.{_≡_, refl, _∙_, subst}
 use mathlib.Core.Bool.{true}
@@ -23,11 +23,19 @@ use Rattle.maps.specs.Reach.{under}
 further : (x x1 x2 q1 q2 : ℕ) → x1 ≡ max x q1 → x2 ≡ max x1 q2 → q1 ≤ q2 → x2 ≡ max x q2
 further x x1 x2 q1 q2 e1 e2 h = omega arith
 
+-- up to before the piece, or after it
+module _ (p p1 : Pen) (o o1 : List ℕ) (q m : ℕ) (piece : Run) (w : Went p q (one m) o o1 p1) where
+  pub span-before : q ≤ piece .first → Went p q (under piece m) o o1 p1
+  span-before h = record { at = w .at; fine = w .fine; keeps = λ g old s. w .keeps g old (λ b i j. s b i j ∙ omega (arith, over-before piece b (omega arith))) }
+
+  pub span-after : piece .last < p .x → Went p q (under piece m) o o1 p1
+  span-after h = record { at = w .at; fine = w .fine; keeps = λ g old s. w .keeps g old (λ b i j. s b i j ∙ omega (arith, over-after piece b (omega arith))) }
+
 -- before, inside and after the piece
-pub span-went :
+pub cross-went :
     (p p1 p2 p3 : Pen) (o o1 o2 o3 : List ℕ) (q m q1 q2 a : ℕ) (piece : Run) → Valid piece → q1 ≡ min q (piece .first) → q2 ≡ min q (piece .last + 1) → a ≡ max (ageOf piece) m
     → Went p q1 (one m) o o1 p1 → Went p1 q2 (one a) o1 o2 p2 → Went p2 q (one m) o2 o3 p3 → Went p q (under piece m) o o3 p3
-span-went p p1 p2 p3 o o1 o2 o3 q m q1 q2 a piece v e1 e2 e3 w1 w2 w3 =
+cross-went p p1 p2 p3 o o1 o2 o3 q m q1 q2 a piece v e1 e2 e3 w1 w2 w3 =
     let a1 = w1 .at in
     let a2 = w2 .at in
     let a3 = w3 .at in

@@ -13,7 +13,7 @@ ghost use Rattle.runs.specs.Map.{raise, mapOf};
 ghost use Rattle.runs.specs.Bytes.{mapSize, runsOf, soundMapBytes, soundLogBytes};
 ghost use Rattle.runs.proofs.Valid.{Valid};
 ghost use Rattle.pen.specs.Drawing.{Fine, Went, Stored};
-ghost use Rattle.maps.specs.Reach.{under, Reach, Seen};
+ghost use Rattle.maps.specs.Reach.{under, Covers, Reach, Opened, Seen};
 
 // Takes the lesser of two numbers.
 fn lesser(a: u64, b: u64) -> u64
@@ -35,8 +35,8 @@ fn greater(a: u64, b: u64) -> u64
     a
 }
 
-// Draws the age m up to before q, raised to the piece's where that is greater.
-fn span(out: &mut [u8], p: Pen, q: u64, m: u64, piece: Run) -> Pen
+// Draws the age m up to before q, across the piece: before it, inside it at the greater age, and after it.
+fn cross(out: &mut [u8], p: Pen, q: u64, m: u64, piece: Run) -> Pen
     requires { ⌜ (length (now out) ≡ mapSize width) × Fine p × Valid piece ⌝ }
     ensures { λ r. ⌜ Went p q (under piece m) (now (out .entry)) (now (out .exit)) r ⌝ }
 {
@@ -48,6 +48,20 @@ fn span(out: &mut [u8], p: Pen, q: u64, m: u64, piece: Run) -> Pen
         greater(piece.number.0, m),
     );
     pen::push(out, inside, q, m)
+}
+
+// Draws the age m up to before q, raised to the piece's where that is greater.
+fn span(out: &mut [u8], p: Pen, q: u64, m: u64, piece: Run) -> Pen
+    requires { ⌜ (length (now out) ≡ mapSize width) × Fine p × Valid piece ⌝ }
+    ensures { λ r. ⌜ Went p q (under piece m) (now (out .entry)) (now (out .exit)) r ⌝ }
+{
+    if q <= piece.first {
+        return pen::push(out, p, q, m);
+    }
+    if piece.last < p.x {
+        return pen::push(out, p, q, m);
+    }
+    cross(out, p, q, m, piece)
 }
 
 // Draws up to the end of a run of the map, raised by the piece.
@@ -80,6 +94,25 @@ struct View {
     age: u64,
     end: u64,
     stop: u64,
+}
+
+// Opens a view from the byte x: the age goes on where the last view reaches past x, and nothing stops it yet.
+fn opened(x: u64, v: View) -> View
+    requires { ⌜ x ≤ eof ⌝ }
+    ensures { λ w. ⌜ Opened x v w ⌝ }
+{
+    if v.end <= x {
+        return View {
+            age: 0,
+            end: runbytes::EOF + 1,
+            stop: runbytes::EOF + 1,
+        };
+    }
+    View {
+        age: v.age,
+        end: v.end,
+        stop: runbytes::EOF + 1,
+    }
 }
 
 // Sees one entry more from the byte x: it covers x, goes on where the age would end, or stops it.
@@ -117,17 +150,13 @@ fn seen(x: u64, r: Run, v: View) -> View
     v
 }
 
-// Looks from the byte x over every entry of a sound log.
-fn look(log: &[u8], x: u64) -> View
-    requires { ⌜ (soundLogBytes (now log) ≡ true) × (x ≤ eof) ⌝ }
-    ensures { λ v. ⌜ Reach (owner (runsOf width (now (log .entry)))) x v ⌝ }
+// Looks from the byte x over every entry of a sound log, after the last view.
+fn look(log: &[u8], x: u64, last: View) -> View
+    requires { ⌜ (soundLogBytes (now log) ≡ true) × (x ≤ eof) × Covers (owner (runsOf width (now log))) x last ⌝ }
+    ensures { λ v. ⌜ Reach (owner (runsOf width (now (log .entry)))) (owner (runsOf width (now (log .entry)))) x v ⌝ }
 {
     let n = runbytes::count(log);
-    let mut v = View {
-        age: 0,
-        end: runbytes::EOF + 1,
-        stop: runbytes::EOF + 1,
-    };
+    let mut v = opened(x, last);
     let mut i: usize = 0;
     while i < n {
         v = seen(x, runbytes::run_at(log, i), v);
@@ -142,8 +171,13 @@ pub fn rebuilt(out: &mut [u8], log: &[u8]) -> usize
     ensures { λ k. ⌜ Stored (mapOf (runsOf width (now (log .entry)))) (now (out .entry)) (now (out .exit)) k ⌝ }
 {
     let mut p = pen::start();
+    let mut v = View {
+        age: 0,
+        end: 0,
+        stop: 0,
+    };
     while p.x <= runbytes::EOF {
-        let v = look(log, p.x);
+        v = look(log, p.x, v);
         p = pen::push(out, p, lesser(v.end, v.stop), v.age);
     }
     pen::flush(out, p)

@@ -35,6 +35,9 @@ module _ (p : Pen) (out : List ℕ) where
     unfolding putElements
     flush-one out′ e = record { count = rw (ne-eqb (p .tip) 0 z); bytes = λ _. rw (ne-eqb (p .tip) 0 z) (rw sub-one at e) }
 
+pub fresh-fine : Fine fresh
+fresh-fine = record { stored = omega arith; behind = omega arith; begun = omega arith }
+
 pub drawn-fresh : (g : ℕ → ℕ) (old : List ℕ) → Drawn g old old fresh
 unfolding draw putElements
 drawn-fresh g old = record { flat = λ b u v. absurd (let y : ⊥ = omega arith in y); turns = λ b e _. omega arith; count = refl; bytes = λ _. refl }

@@ -1,7 +1,7 @@
 -- What the tests of the code come to, as the tests of the refusals' rows.
 use Prim.Native.Nat.{ℕ, _≤_, _<_}
 use native.Mathlib.Omega.{arith}
-use mathlib.Core.Bool.{true, false, not}
+use mathlib.Core.Bool.{Bool, true, false, not}
 use mathlib.Core.List.{List}
 use mathlib.Core.Path.{_≡_, sym, ap, _∙_}
 use lib.Dec.{eqb, leb}
@@ -39,3 +39,7 @@ module _ (n i c : ℕ) (t : List ℕ) (l : Lock) (S : Shape n t) (h : i < n) (e 
 
   pub own-client : l .client ≡ c → not (eqb (nth (tableOf width t) i .client) c) ≡ false
   own-client z = ap not (same-client ∙ eq-eqb (l .client) c z)
+
+-- what a function tells of a test
+pub told : (a b v : Bool) → a ≡ b → not a ≡ v → not b ≡ v
+told a b v e h = ap not (sym e) ∙ h

@@ -27,8 +27,6 @@ const MAX_ISSUED: u64 = 4294967295;
 const MAX_RECORDS: usize = 256;
 
 // The modes that the tests name, and the state that an acknowledgement wants.
-const PR: u64 = 1;
-
 const NBW: u64 = 2;
 
 const BW: u64 = 3;
@@ -88,7 +86,7 @@ fn request_refusal(
     if MAX_STRIPE < stripe {
         return 4;
     }
-    if !((PR <= mode) & (mode <= PW)) {
+    if !modes::known_mode(mode) {
         return 5;
     }
     if !((first <= last) & (last <= settle::EOF)) {

@@ -1,6 +1,6 @@
 -- `note_early`: each answer is the first rule that is broken.
 use borrow.Author.Needs.{needs}
-use Rattle.gilboreth.specs.Note.{noteEarly}
+use Rattle.gilboreth.specs.Early.{noteEarly}
 use Rattle.gilboreth.proofs.note.note_early.Statement.{statement}
 use Rattle.gilboreth.proofs.note.note_early.Tie as tie
 
