@@ -1,0 +1,51 @@
+-- What the code's places in byte buffers mean.
+use Prim.Native.Nat.{ℕ, _+_, _≤_}
+use mathlib.Core.Path.{_≡_}
+use mathlib.Core.Bool.{Bool, cond}
+use mathlib.Core.List.{List, [], _∷_, _++_}
+use mathlib.Core.Logic.{_⊎_}
+use lib.ListN.{length, take, drop}
+use Rattle.common.specs.Counters.{width}
+use Rattle.xdr.specs.Layout.{fields}
+use Rattle.xdr.specs.Array.{element}
+use Rattle.xdr.specs.Tab.{tab}
+use Rattle.locks.specs.Events.{eventLayout}
+use Rattle.line.specs.declared.Spot.{Spot}
+use Rattle.line.specs.declared.Read.{Read}
+use Rattle.line.specs.Format.{Reading, longest, readLine}
+use Rattle.line.specs.Lines.{bare, left}
+
+-- What a spot says of the line s
+abbrev pub reading : List ℕ → Spot → Reading
+reading s p = record { ok = p .ok; value = p .value; rest = drop (p .at) s }
+
+-- The bytes q are kept of the line p: all of it, or enough to know that it is too long, even without the CR of its break
+abbrev pub Keeps : List ℕ → List ℕ → Type 0
+Keeps q p = (q ≡ p) ⊎ ((longest + 2 ≤ length q) × (longest + 2 ≤ length p))
+
+-- Whatever line the first n bytes of the buffer keep, the first r then keep it with b behind it
+pub record Keeping (b : ℕ) (before : List ℕ) (n : ℕ) (after : List ℕ) (r : ℕ) : Type 0 where
+  pub room : r ≤ length before
+  pub keeps : (p : List ℕ) → Keeps (take n before) p → Keeps (take r after) (p ++ (b ∷ []))
+
+-- Whatever line the first n bytes of the buffer keep, r is what it says, with its break or, as the last line, without one
+abbrev pub Saying : Bool → List ℕ → ℕ → Read → Type 0
+Saying last buffer n r = (p : List ℕ) → Keeps (take n buffer) p → r ≡ readLine (cond last p (bare p))
+
+-- Whatever line the first n bytes of the buffer keep, the first r then keep what the piece s leaves of a line
+pub record Leaving (s before : List ℕ) (n : ℕ) (after : List ℕ) (r : ℕ) : Type 0 where
+  pub keeps : (p : List ℕ) → Keeps (take n before) p → Keeps (take r after) (left p s)
+
+-- A text of at most `most` bytes is put at `at`, behind what stands in front of it, and r is the place after it
+pub record Wrote (most : ℕ) (before after : List ℕ) (at r : ℕ) (text : List ℕ) : Type 0 where
+  pub next : r ≡ at + length text
+  pub short : length text ≤ most
+  pub says : take r after ≡ take at before ++ text
+  pub size : length after ≡ length before
+
+-- The numbers of event k of an event buffer; those of its first n events
+abbrev pub eventAt : List ℕ → ℕ → List ℕ
+eventAt b k = fields (eventLayout width) b (element (eventLayout width) 0 k) 0
+
+abbrev pub eventsIn : List ℕ → ℕ → List (List ℕ)
+eventsIn b n = tab n (eventAt b)
