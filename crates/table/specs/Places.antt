@@ -1,4 +1,4 @@
--- What the functions over a table's bytes promise each other. No public contract cites this file.
+-- The records in a table's bytes, and what it means that bytes hold a table (`Holds`), which the contracts of the messages cite.
 use Prim.Native.Nat.{ℕ, _+_, _^_, _≤_, _<_}
 use mathlib.Core.Path.{_≡_}
 use mathlib.Core.List.{List, _++_}
