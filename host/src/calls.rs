@@ -5,15 +5,22 @@ use crate::model::locks::Answer;
 use crate::model::serve::Message;
 use crate::{entries, model, shipped};
 
+pub type Request = fn(&mut [u8], &mut [u8], u64, u64, u64, u64, u64) -> Answer;
+/// Acknowledge, downgrade and release, which name a handle.
+pub type Naming = fn(&mut [u8], &mut [u8], u64, u64) -> Answer;
+pub type Note = fn(&mut [u8], &mut [u8], u64, u64, u64, u64) -> u64;
+pub type Write = fn(&[u8], &mut [u8], u64, &[u8], u64) -> u64;
+pub type Restart = fn(&mut [u8], &[u8]) -> u64;
+
 #[derive(Clone, Copy)]
 pub struct Calls {
-    pub request: fn(&mut [u8], &mut [u8], u64, u64, u64, u64, u64) -> Answer,
-    pub acknowledge: fn(&mut [u8], &mut [u8], u64, u64) -> Answer,
-    pub downgrade: fn(&mut [u8], &mut [u8], u64, u64) -> Answer,
-    pub release: fn(&mut [u8], &mut [u8], u64, u64) -> Answer,
-    pub note: fn(&mut [u8], &mut [u8], u64, u64, u64, u64) -> u64,
-    pub write: fn(&[u8], &mut [u8], u64, &[u8], u64) -> u64,
-    pub restart: fn(&mut [u8], &[u8]) -> u64,
+    pub request: Request,
+    pub acknowledge: Naming,
+    pub downgrade: Naming,
+    pub release: Naming,
+    pub note: Note,
+    pub write: Write,
+    pub restart: Restart,
 }
 
 impl Calls {
@@ -45,14 +52,26 @@ pub const MODEL: Calls = Calls {
 };
 
 pub const LIBRARY: Calls = Calls {
-    request: entries::request,
-    acknowledge: entries::acknowledge,
-    downgrade: entries::downgrade,
-    release: entries::release,
+    request: |table, events, client, stripe, mode, first, last| {
+        answer(entries::request(table, events, client, stripe, mode, first, last))
+    },
+    acknowledge: |table, events, client, handle| {
+        answer(entries::acknowledge(table, events, client, handle))
+    },
+    downgrade: |table, events, client, handle| {
+        answer(entries::downgrade(table, events, client, handle))
+    },
+    release: |table, events, client, handle| {
+        answer(entries::release(table, events, client, handle))
+    },
     note: entries::note,
     write: entries::write,
     restart: entries::restart,
 };
+
+fn answer(entries::Answer { refusal, handle, events }: entries::Answer) -> Answer {
+    Answer { refusal, handle, events }
+}
 
 pub const SHIPPED: Calls = Calls {
     request: shipped::locks::request,

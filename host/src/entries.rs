@@ -1,61 +1,76 @@
-//! The seven entries of the proved library, safe over slices and numbers.
+//! The seven entries of the proved library on slices and numbers, as include/gilboreth.h has them.
 //!
-//! They are those of include/gilboreth.h, with the signatures that the model gives them. The header
-//! asks for buffers that don't overlap and aren't null, also at length 0. A slice is never null, and
-//! where two slices of one call overlap both are only read.
+//! They are safe to call. C is asked for buffers that don't overlap and for no null pointer, also at
+//! length 0. A slice is never null, and where two slices of one call overlap both are only read.
 
-use crate::model::locks::Answer;
-
-/// A message's answer as C returns it, by value.
+/// A message's answer as C returns it, by value. A refused one has handle 0 and event count 0.
 #[repr(C)]
-struct GilAnswer {
-    refusal: u64,
-    handle: u64,
-    events: u64,
+#[derive(Clone, Copy, Debug, PartialEq, Eq)]
+pub struct Answer {
+    pub refusal: u64,
+    pub handle: u64,
+    pub events: u64,
 }
 
-impl From<GilAnswer> for Answer {
-    fn from(GilAnswer { refusal, handle, events }: GilAnswer) -> Answer {
-        Answer { refusal, handle, events }
-    }
+/// A message's entry: the table, the event buffer, and its numbers. The library that is compiled for
+/// Arm takes the answer's address before them, which on x86-64 is how a structure is returned.
+macro_rules! message {
+    ($(#[$doc:meta])* $name:ident is $entry:ident($($number:ident),+)) => {
+        extern "C" {
+            #[cfg(not(target_arch = "aarch64"))]
+            fn $entry(
+                table: *mut u8,
+                table_len: usize,
+                events: *mut u8,
+                events_len: usize,
+                $($number: u64),+
+            ) -> Answer;
+            #[cfg(target_arch = "aarch64")]
+            fn $entry(
+                answer: *mut Answer,
+                table: *mut u8,
+                table_len: usize,
+                events: *mut u8,
+                events_len: usize,
+                $($number: u64),+
+            );
+        }
+
+        $(#[$doc])*
+        pub fn $name(table: &mut [u8], events: &mut [u8], $($number: u64),+) -> Answer {
+            let (t, e) = (table.as_mut_ptr(), events.as_mut_ptr());
+            #[cfg(not(target_arch = "aarch64"))]
+            unsafe {
+                $entry(t, table.len(), e, events.len(), $($number),+)
+            }
+            #[cfg(target_arch = "aarch64")]
+            {
+                let mut answer = Answer { refusal: 0, handle: 0, events: 0 };
+                unsafe { $entry(&mut answer, t, table.len(), e, events.len(), $($number),+) }
+                answer
+            }
+        }
+    };
+}
+
+message! {
+    /// Refused with 1 to 8.
+    request is gil_request(client, stripe, mode, first, last)
+}
+message! {
+    /// Refused with 1, 2, 3, 9, 10, 11.
+    acknowledge is gil_acknowledge(client, handle)
+}
+message! {
+    /// Refused with 1, 2, 3, 9, 10, 11.
+    downgrade is gil_downgrade(client, handle)
+}
+message! {
+    /// Refused with 1, 2, 3, 9, 10.
+    release is gil_release(client, handle)
 }
 
 extern "C" {
-    fn gil_request(
-        table: *mut u8,
-        table_len: usize,
-        events: *mut u8,
-        events_len: usize,
-        client: u64,
-        stripe: u64,
-        mode: u64,
-        first: u64,
-        last: u64,
-    ) -> GilAnswer;
-    fn gil_acknowledge(
-        table: *mut u8,
-        table_len: usize,
-        events: *mut u8,
-        events_len: usize,
-        client: u64,
-        handle: u64,
-    ) -> GilAnswer;
-    fn gil_downgrade(
-        table: *mut u8,
-        table_len: usize,
-        events: *mut u8,
-        events_len: usize,
-        client: u64,
-        handle: u64,
-    ) -> GilAnswer;
-    fn gil_release(
-        table: *mut u8,
-        table_len: usize,
-        events: *mut u8,
-        events_len: usize,
-        client: u64,
-        handle: u64,
-    ) -> GilAnswer;
     fn gil_note(
         map: *mut u8,
         map_len: usize,
@@ -79,35 +94,7 @@ extern "C" {
     fn gil_restart(map: *mut u8, map_len: usize, log: *const u8, log_len: usize) -> u64;
 }
 
-pub fn request(
-    table: &mut [u8],
-    events: &mut [u8],
-    client: u64,
-    stripe: u64,
-    mode: u64,
-    first: u64,
-    last: u64,
-) -> Answer {
-    let (t, e) = (table.as_mut_ptr(), events.as_mut_ptr());
-    let (t_len, e_len) = (table.len(), events.len());
-    unsafe { gil_request(t, t_len, e, e_len, client, stripe, mode, first, last) }.into()
-}
-
-pub fn acknowledge(table: &mut [u8], events: &mut [u8], client: u64, handle: u64) -> Answer {
-    let (t, e) = (table.as_mut_ptr(), events.as_mut_ptr());
-    unsafe { gil_acknowledge(t, table.len(), e, events.len(), client, handle) }.into()
-}
-
-pub fn downgrade(table: &mut [u8], events: &mut [u8], client: u64, handle: u64) -> Answer {
-    let (t, e) = (table.as_mut_ptr(), events.as_mut_ptr());
-    unsafe { gil_downgrade(t, table.len(), e, events.len(), client, handle) }.into()
-}
-
-pub fn release(table: &mut [u8], events: &mut [u8], client: u64, handle: u64) -> Answer {
-    let (t, e) = (table.as_mut_ptr(), events.as_mut_ptr());
-    unsafe { gil_release(t, table.len(), e, events.len(), client, handle) }.into()
-}
-
+/// Refused with 12 to 17.
 pub fn note(
     map: &mut [u8],
     log: &mut [u8],
@@ -120,11 +107,13 @@ pub fn note(
     unsafe { gil_note(m, map.len(), l, log.len(), first, length, number, image_length) }
 }
 
+/// Refused with 12, 14, 15, 18.
 pub fn write(map: &[u8], image: &mut [u8], first: u64, piece: &[u8], number: u64) -> u64 {
     let (m, i, p) = (map.as_ptr(), image.as_mut_ptr(), piece.as_ptr());
     unsafe { gil_write(m, map.len(), i, image.len(), first, p, piece.len(), number) }
 }
 
+/// Refused with 12 (length only), 13, 16.
 pub fn restart(map: &mut [u8], log: &[u8]) -> u64 {
     unsafe { gil_restart(map.as_mut_ptr(), map.len(), log.as_ptr(), log.len()) }
 }

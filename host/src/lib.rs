@@ -1,9 +1,61 @@
-//! The host of Gilboreth: the library's entries for Rust, an independent model of document 01,
-//! plain Rust to measure the library against, and what the tests share.
+//! Gilboreth for Rust: a proved lock table and note-and-write path for a scratch store.
+//!
+//! Clients cache what they write and flush it later, so pieces reach a stripe in no fixed order. A
+//! [`Table`] grants locks, each write grant with a number. A piece comes with its grant's number; it
+//! is noted in the [`Log`] and the [`Map`], and then written to the image. An old flush that arrives
+//! last, even after a restart, doesn't beat a later grant:
+//!
+//! ```
+//! use gilboreth_host::{EventBuffer, Handle, Log, Map, Mode, Table};
+//!
+//! // Client 0 holds the bytes 0 to 9. Client 1 asks for 4 to 7, and is granted them as soon as
+//! // client 0 has acknowledged, before it has flushed.
+//! let (mut table, mut events) = (Table::new(), EventBuffer::new());
+//! let mut answer = table.request(&mut events, 0, 0, Mode::NBW, 0, 9)?;
+//! let old = answer.events.next().unwrap().record.number;
+//! table.request(&mut events, 1, 0, Mode::NBW, 4, 7)?;
+//! let mut answer = table.acknowledge(&mut events, 0, Handle(1))?;
+//! let later = answer.events.next().unwrap().record.number;
+//!
+//! // Client 1 flushes first.
+//! let (mut map, mut log) = (Map::new(), Log::new());
+//! let mut image = *b"..........";
+//! map.note(&mut log, 4, 4, later, 10)?;
+//! map.write(&mut image, 4, b"LLLL", later)?;
+//!
+//! // The server is cut: the map is lost, image and log stay. Then the old flush arrives.
+//! let mut map = Map::new();
+//! map.restart(&log)?;
+//! map.note(&mut log, 0, 10, old, 10)?;
+//! map.write(&mut image, 0, b"OOOOOOOOOO", old)?;
+//! assert_eq!(&image, b"OOOOLLLLOO");
+//! # Ok::<(), gilboreth_host::Refusal>(())
+//! ```
+//!
+//! Each call is one call of the proved library, on buffers of fixed length that are lent to it. A
+//! call that is refused answers a [`Refusal`] and changes nothing. What the library promises, for
+//! every input, is in docs/READING.md.
+//!
+//! # What is where
+//!
+//! The library for other programs is what stands at the top of this crate. [`entries`] is the same
+//! seven calls on plain slices and numbers, for buffers of any length.
+//!
+//! The rest is here to judge the library, and no program needs it:
+//!
+//! - [`model`] is document 01 in Rust, written from the document alone. It shares no code with what
+//!   stands above, so that an error would have to be made twice to pass.
+//! - [`shipped`] is the same calls as an engineer would ship them in plain Rust, the yardstick of the
+//!   benchmark. It takes its sizes and refusal numbers from the model.
+//! - [`calls`], [`beside`] and [`random`] are what tests and benchmark share: the seven calls as one
+//!   value, a call beside the model's, and seeds.
 
 pub mod beside;
 pub mod calls;
 pub mod entries;
+mod library;
 pub mod model;
 pub mod random;
 pub mod shipped;
+
+pub use library::*;

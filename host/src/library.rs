@@ -1,0 +1,28 @@
+//! The library for Rust programs: the seven entries with types over their bytes and numbers.
+//!
+//! `table` serves the four messages, `map` notes, writes and restarts; `log`, `records`, `runs` and
+//! `events` read what the entries leave. Nothing here decides anything: each call is one call of
+//! the proved library, and nothing here is taken from the model.
+
+#[macro_use]
+mod buffer;
+mod codes;
+mod events;
+mod log;
+mod map;
+mod records;
+mod refusal;
+mod runs;
+mod table;
+
+pub use codes::{Handle, Mode, Number, State};
+pub use events::{Answer, Event, EventBuffer, Events, Kind};
+pub use log::Log;
+pub use map::Map;
+pub use records::{Record, Records};
+pub use refusal::Refusal;
+pub use runs::{Run, Runs};
+pub use table::Table;
+
+/// The last byte that a range can have, 9,223,372,036,854,775,807.
+pub const EOF: u64 = 9_223_372_036_854_775_807;

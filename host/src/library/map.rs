@@ -1,0 +1,107 @@
+//! The map of a stripe: note, write and restart.
+
+use super::buffer::array;
+use super::codes::Number;
+use super::log::Log;
+use super::refusal::{accepted, Refusal};
+use super::runs::{Run, Runs};
+use crate::entries;
+use std::fmt::{Debug, Formatter, Result as Formatted};
+
+const RUNS: usize = 1_024;
+
+buffer! {
+    /// The map of a stripe, 20,484 bytes: the greatest noted number of each byte, by runs. All zeros
+    /// is the empty map.
+    ///
+    /// A piece is noted, and then it is written. Pieces come in any order, and each byte is that of
+    /// the greatest number. From document 01:
+    ///
+    /// ```
+    /// use gilboreth_host::{Log, Map, Number, Run};
+    ///
+    /// let (mut map, mut log) = (Map::new(), Log::new());
+    /// let mut image = *b"..........";
+    /// let pieces: [(u64, &[u8], Number); 3] =
+    ///     [(0, b"AAAAAA", Number(2)), (4, b"BBBB", Number(1)), (5, b"CCC", Number(3))];
+    /// for (first, piece, number) in pieces {
+    ///     map.note(&mut log, first, piece.len() as u64, number, 10)?;
+    /// }
+    /// for (first, piece, number) in pieces {
+    ///     map.write(&mut image, first, piece, number)?;
+    /// }
+    /// assert_eq!(&image, b"AAAAACCC..");
+    /// assert!(map.runs().eq([
+    ///     Run { first: 0, last: 4, number: Number(2) },
+    ///     Run { first: 5, last: 7, number: Number(3) },
+    /// ]));
+    /// # Ok::<(), gilboreth_host::Refusal>(())
+    /// ```
+    Map, 4 + Run::BYTES * RUNS
+}
+
+impl Map {
+    /// Notes a piece: appends its entry to the log, and raises each byte's number to the piece's
+    /// where that is greater.
+    pub fn note(
+        &mut self,
+        log: &mut Log,
+        first: u64,
+        length: u64,
+        number: Number,
+        image_length: u64,
+    ) -> Result<(), Refusal> {
+        let (map, log) = (self.bytes_mut(), log.bytes_mut());
+        accepted(entries::note(map, log, first, length, number.0, image_length))
+    }
+
+    /// Writes a piece: stores its byte in the image exactly where the map's number is the piece's.
+    ///
+    /// Where the map has a greater number the piece is too late, and stores nothing there. Where it
+    /// has a smaller one the piece was never noted, and the whole write is refused with 18.
+    pub fn write(
+        &self,
+        image: &mut [u8],
+        first: u64,
+        piece: &[u8],
+        number: Number,
+    ) -> Result<(), Refusal> {
+        accepted(entries::write(self.bytes(), image, first, piece, number.0))
+    }
+
+    /// Fills the map anew with the log's map, whatever it was.
+    ///
+    /// After any cut it comes first: neither a note nor a write before it was accepted.
+    ///
+    /// ```
+    /// use gilboreth_host::{Log, Map, Number};
+    ///
+    /// let (mut map, mut log) = (Map::new(), Log::new());
+    /// map.note(&mut log, 4, 4, Number(2), 10)?;
+    /// let mut again = Map::new();
+    /// again.restart(&log)?;
+    /// assert!(again == map);
+    /// # Ok::<(), gilboreth_host::Refusal>(())
+    /// ```
+    pub fn restart(&mut self, log: &Log) -> Result<(), Refusal> {
+        accepted(entries::restart(self.bytes_mut(), log.bytes()))
+    }
+
+    /// The runs, rising.
+    pub fn runs(&self) -> Runs<'_> {
+        Runs(array(self.bytes(), Run::BYTES))
+    }
+
+    /// The number of a byte. A byte in no run has number 0.
+    pub fn number_at(&self, byte: u64) -> Number {
+        let over = |run: &Run| run.first <= byte && byte <= run.last;
+        self.runs().find(over).map_or(Number(0), |run| run.number)
+    }
+}
+
+impl Debug for Map {
+    fn fmt(&self, f: &mut Formatter) -> Formatted {
+        f.write_str("Map ")?;
+        f.debug_list().entries(self.runs()).finish()
+    }
+}

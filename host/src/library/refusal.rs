@@ -1,0 +1,165 @@
+//! The refusals: each has a number, a name, and a sentence that says what to do about it.
+
+use std::error::Error;
+use std::fmt::{Display, Formatter, Result as Formatted};
+
+/// Why a call was refused. A refused call changes nothing in any buffer.
+///
+/// A request is judged by 1 to 8 in this order, the other messages by 1, 2, 3, 9, 10, 11, a note by
+/// 12 to 17, a write by 12, 14, 15, 18, a restart by 12 (length only), 13, 16. The first hit answers.
+///
+/// ```
+/// use gilboreth_host::{EventBuffer, Mode, Refusal, Table};
+///
+/// let (mut table, mut events) = (Table::new(), EventBuffer::new());
+/// let refusal = table.request(&mut events, 64, 0, Mode::PR, 0, 9).unwrap_err();
+/// assert_eq!((refusal, refusal.number()), (Refusal::Client, 3));
+/// assert_eq!(refusal.text(), "the client is above 63; number the clients from 0 to 63");
+/// assert!(table == Table::new());
+/// ```
+#[derive(Clone, Copy, Debug, PartialEq, Eq, Hash)]
+pub enum Refusal {
+    /// The event buffer is under 11,268 bytes.
+    EventBuffer = 1,
+    /// The table is of another length, or not sound.
+    Table = 2,
+    /// The client is above 63.
+    Client = 3,
+    /// The stripe is above 15.
+    Stripe = 4,
+    /// The mode is not 1 to 4.
+    Mode = 5,
+    /// First is above last, or last above EOF.
+    Range = 6,
+    /// 4,294,967,295 handles are issued.
+    Handles = 7,
+    /// 256 records are in use.
+    Records = 8,
+    /// There is no record with this handle.
+    NoRecord = 9,
+    /// The record is of another client.
+    OtherClient = 10,
+    /// An acknowledge not in state 2; a downgrade unless canceling BW or PW.
+    State = 11,
+    /// The map is of another length, or not sound.
+    Map = 12,
+    /// The log is of another length, or not sound.
+    Log = 13,
+    /// The piece is of length 0, past the image or past EOF.
+    Piece = 14,
+    /// The number is 0 or above 4,294,967,295.
+    Number = 15,
+    /// The resulting map needs over 1,024 runs.
+    Runs = 16,
+    /// The log holds 2,048 entries.
+    Entries = 17,
+    /// Some byte of the piece has a smaller number in the map.
+    Smaller = 18,
+}
+
+impl Refusal {
+    /// All of them, in the order of their numbers.
+    pub const ALL: [Refusal; 18] = [
+        Refusal::EventBuffer,
+        Refusal::Table,
+        Refusal::Client,
+        Refusal::Stripe,
+        Refusal::Mode,
+        Refusal::Range,
+        Refusal::Handles,
+        Refusal::Records,
+        Refusal::NoRecord,
+        Refusal::OtherClient,
+        Refusal::State,
+        Refusal::Map,
+        Refusal::Log,
+        Refusal::Piece,
+        Refusal::Number,
+        Refusal::Runs,
+        Refusal::Entries,
+        Refusal::Smaller,
+    ];
+
+    /// Its number, 1 to 18.
+    pub fn number(self) -> u64 {
+        self as u64
+    }
+
+    /// The refusal with this number, 1 to 18.
+    pub fn of_number(number: u64) -> Option<Refusal> {
+        Refusal::ALL.into_iter().find(|refusal| refusal.number() == number)
+    }
+
+    /// What is wrong, and what to do about it.
+    pub fn text(self) -> &'static str {
+        match self {
+            Refusal::EventBuffer => {
+                "the event buffer is under 11,268 bytes; lend one that holds 256 events"
+            }
+            Refusal::Table => {
+                "the table is of another length, or not sound; \
+                lend the 10,312 bytes that the last message left"
+            }
+            Refusal::Client => "the client is above 63; number the clients from 0 to 63",
+            Refusal::Stripe => "the stripe is above 15; number the stripes from 0 to 15",
+            Refusal::Mode => "the mode is not 1 to 4; ask for 1 PR, 2 NBW, 3 BW or 4 PW",
+            Refusal::Range => {
+                "first is above last, or last above EOF; \
+                ask for a range with both ends included, up to EOF at most"
+            }
+            Refusal::Handles => {
+                "4,294,967,295 handles are issued; \
+                let every client flush and release, then start an empty table with empty logs"
+            }
+            Refusal::Records => "256 records are in use; request again after a release",
+            Refusal::NoRecord => "no record has this handle; it was released, or never issued",
+            Refusal::OtherClient => {
+                "the record is of another client; name it with the client that requested it"
+            }
+            Refusal::State => {
+                "the record is not in the state for this; \
+                acknowledge once after a revocation, downgrade only a canceling BW or PW"
+            }
+            Refusal::Map => "the map is of another length, or not sound; restart it from the log",
+            Refusal::Log => {
+                "the log is of another length, or not sound; \
+                lend the 40,964 bytes that the last note left"
+            }
+            Refusal::Piece => {
+                "the piece is of length 0, past the image or past EOF; \
+                send at least one byte, all inside the image"
+            }
+            Refusal::Number => {
+                "the number is 0 or above 4,294,967,295; send the number that the grant carried"
+            }
+            Refusal::Runs => {
+                "the resulting map needs over 1,024 runs; once the stripe's write locks are \
+                released and its noted pieces written, start an empty map and log"
+            }
+            Refusal::Entries => {
+                "the log holds 2,048 entries; once the stripe's write locks are \
+                released and its noted pieces written, start an empty map and log"
+            }
+            Refusal::Smaller => {
+                "some byte of the piece has a smaller number in the map; \
+                note the piece first, then write it again"
+            }
+        }
+    }
+}
+
+impl Display for Refusal {
+    fn fmt(&self, f: &mut Formatter) -> Formatted {
+        write!(f, "refusal {}: {}", self.number(), self.text())
+    }
+}
+
+impl Error for Refusal {}
+
+/// What an entry's number says: 0 is accepted.
+pub fn accepted(number: u64) -> Result<(), Refusal> {
+    match number {
+        0 => Ok(()),
+        _ => Err(Refusal::of_number(number).expect("an entry answers 0 to 18")),
+    }
+}

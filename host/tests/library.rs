@@ -1,0 +1,207 @@
+//! The library with its types beside the model: the same answers, events, records and runs.
+
+mod messages;
+
+use gilboreth_host::model::locks::{decode, EVENTS_BYTES, TABLE_BYTES};
+use gilboreth_host::model::serve::{serve, Message};
+use gilboreth_host::model::stripe::{decode_log, decode_map, LOG_BYTES, MAP_BYTES};
+use gilboreth_host::model::{self, modes, runs, stripe, table};
+use gilboreth_host::random::{for_seeds, Random};
+use gilboreth_host::{
+    Answer, Event, EventBuffer, Handle, Kind, Log, Map, Mode, Number, Record, Refusal, Run, State,
+    Table, EOF,
+};
+use messages::message;
+
+#[test]
+fn sizes() {
+    assert_eq!((Table::BYTES, EventBuffer::BYTES), (10_312, 11_268));
+    assert_eq!((Map::BYTES, Log::BYTES), (20_484, 40_964));
+    assert_eq!((TABLE_BYTES, EVENTS_BYTES), (Table::BYTES, EventBuffer::BYTES));
+    assert_eq!((MAP_BYTES, LOG_BYTES), (Map::BYTES, Log::BYTES));
+    assert_eq!(EOF, model::EOF);
+}
+
+#[test]
+fn refusals() {
+    for (number, refusal) in (1..).zip(Refusal::ALL) {
+        assert_eq!(refusal.number(), number);
+        assert_eq!(Refusal::of_number(number), Some(refusal));
+        let text = refusal.text();
+        assert!(text.contains("; ") && !text.contains("  "), "{text}");
+        assert_eq!(refusal.to_string(), format!("refusal {number}: {text}"));
+    }
+    assert_eq!((Refusal::of_number(0), Refusal::of_number(19)), (None, None));
+}
+
+fn record(r: &table::Record) -> Record {
+    Record {
+        handle: Handle(r.handle),
+        client: r.client,
+        stripe: r.stripe,
+        mode: match r.mode {
+            modes::Mode::PR => Mode::PR,
+            modes::Mode::NBW => Mode::NBW,
+            modes::Mode::BW => Mode::BW,
+            modes::Mode::PW => Mode::PW,
+        },
+        state: match r.state {
+            modes::State::Waiting => State::Waiting,
+            modes::State::Granted => State::Granted,
+            modes::State::Asked => State::Asked,
+            modes::State::Canceling => State::Canceling,
+        },
+        number: Number(r.number),
+        first: r.first,
+        last: r.last,
+    }
+}
+
+fn send<'e>(
+    table: &mut Table,
+    events: &'e mut EventBuffer,
+    message: Message,
+) -> Result<Answer<'e>, Refusal> {
+    match message {
+        Message::Request { client, stripe, mode, first, last } => {
+            table.request(events, client, stripe, mode, first, last)
+        }
+        Message::Acknowledge { client, handle } => {
+            table.acknowledge(events, client, Handle(handle))
+        }
+        Message::Downgrade { client, handle } => table.downgrade(events, client, Handle(handle)),
+        Message::Release { client, handle } => table.release(events, client, Handle(handle)),
+    }
+}
+
+#[test]
+fn sessions() {
+    for_seeds(0..20, |random| {
+        let (mut table, mut events) = (Table::new(), EventBuffer::new());
+        let mut model = table::Table::default();
+        for _ in 0..200 {
+            let mut message = message(&model, random, 4);
+            if let (Message::Request { mode, .. }, true) = (&mut message, random.once_in(9)) {
+                *mode = 5;
+            }
+            let old = table.clone();
+            match (send(&mut table, &mut events, message), serve(&mut model, message)) {
+                (Ok(answer), Ok(accepted)) => {
+                    assert_eq!(answer.handle, Handle(accepted.handle));
+                    assert_eq!(answer.events.len(), accepted.events.len());
+                    let kind = |kind| match kind {
+                        model::serve::Kind::Grant => Kind::Grant,
+                        model::serve::Kind::Revocation => Kind::Revocation,
+                    };
+                    let event = |e: &model::serve::Event| Event {
+                        kind: kind(e.kind),
+                        record: record(&e.record),
+                    };
+                    assert!(answer.events.eq(accepted.events.iter().map(event)));
+                }
+                (Err(refusal), Err(number)) => {
+                    assert_eq!(refusal.number(), number);
+                    assert!(table == old);
+                }
+                (answer, expected) => panic!("{message:?}: {answer:?}, by the model {expected:?}"),
+            }
+            assert!(table.records().eq(model.records.iter().map(record)));
+            assert_eq!(table.issued(), model.issued);
+            let numbers: [u64; 16] = std::array::from_fn(|stripe| table.last_number(stripe).0);
+            assert_eq!(numbers, model.numbers);
+        }
+    });
+}
+
+#[test]
+fn stripes() {
+    for_seeds(0..50, |random| {
+        let (mut map, mut log) = (Map::new(), Log::new());
+        let (mut model_map, mut model_log) = (vec![0; MAP_BYTES], vec![0; LOG_BYTES]);
+        let mut image = [0; 40];
+        for _ in 0..60 {
+            let (first, length) = (random.below(40), random.below(12));
+            let (number, old) = (random.below(5), image);
+            let (answered, expected) = match random.below(9) {
+                0..=3 => (
+                    map.note(&mut log, first, length, Number(number), 40),
+                    stripe::note(&mut model_map, &mut model_log, first, length, number, 40),
+                ),
+                4..=7 => {
+                    let piece = vec![random.draw() as u8; length as usize];
+                    let mut model_image = old;
+                    let written = map.write(&mut image, first, &piece, Number(number));
+                    let expected =
+                        stripe::write(&model_map, &mut model_image, first, &piece, number);
+                    assert_eq!(image, model_image);
+                    (written, expected)
+                }
+                _ => {
+                    random.fill(map.bytes_mut());
+                    (map.restart(&log), stripe::restart(&mut model_map, &model_log))
+                }
+            };
+            assert_eq!(answered.err().map_or(0, Refusal::number), expected);
+            assert!(map.bytes()[..] == model_map && log.bytes()[..] == model_log);
+            let run =
+                |r: &runs::Run| Run { first: r.first, last: r.last, number: Number(r.number) };
+            let runs = decode_map(&model_map).unwrap();
+            assert!(map.runs().eq(runs.iter().map(run)));
+            assert!(log.entries().eq(decode_log(&model_log).unwrap().iter().map(run)));
+            for byte in 0..45 {
+                let over = runs.iter().find(|run| run.first <= byte && byte <= run.last);
+                assert_eq!(map.number_at(byte).0, over.map_or(0, |run| run.number));
+            }
+        }
+    });
+}
+
+/// Any bytes can be looked at. The entries refuse those that aren't sound, and leave them.
+#[test]
+fn bytes_that_are_not_sound() {
+    let mut random = Random::new(0);
+    for _ in 0..20 {
+        let (mut table, mut map, mut log) = (Table::new(), Map::new(), Log::new());
+        random.fill(table.bytes_mut());
+        random.fill(map.bytes_mut());
+        random.fill(log.bytes_mut());
+        assert!(decode(table.bytes()).is_none());
+        assert!(table.records().count() <= 256);
+        assert_eq!((map.runs().len(), log.entries().len()), (1_024, 2_048));
+        assert!(!format!("{table:?} {map:?} {log:?}").is_empty());
+
+        let (old_table, old_map, old_log) = (table.clone(), map.clone(), log.clone());
+        let mut events = EventBuffer::new();
+        let answer = table.release(&mut events, 0, Handle(1));
+        assert_eq!(answer.err(), Some(Refusal::Table));
+        assert_eq!(map.note(&mut log, 0, 1, Number(1), 1), Err(Refusal::Map));
+        assert_eq!(Map::new().note(&mut log, 0, 1, Number(1), 1), Err(Refusal::Log));
+        assert_eq!(map.write(&mut [0], 0, b"A", Number(1)), Err(Refusal::Map));
+        assert_eq!(map.restart(&log), Err(Refusal::Log));
+        assert!(table == old_table && map == old_map && log == old_log);
+    }
+}
+
+/// The first record whose mode has no meaning ends the records.
+#[test]
+fn records_without_meaning() {
+    let (mut table, mut events) = (Table::new(), EventBuffer::new());
+    for _ in 0..3 {
+        table.request(&mut events, 0, 0, Mode::PR, 0, 9).unwrap();
+    }
+    assert_eq!(table.records().count(), 3);
+    table.bytes_mut()[72 + 40 + 15] = 5;
+    assert_eq!(table.records().count(), 1);
+}
+
+/// A buffer of the caller's own is used where it stands.
+#[test]
+fn over_the_callers_bytes() {
+    let (mut map, mut log) = ([0; MAP_BYTES], [0; LOG_BYTES]);
+    Map::over(&mut map).note(Log::over(&mut log), 2, 3, Number(7), 10).unwrap();
+    let mut again = Map::new();
+    again.restart(&Log::from(log)).unwrap();
+    assert!(again.bytes() == &map);
+    assert!(log[Log::COUNT] == [0, 0, 0, 1]);
+    assert!(log[Log::entry(0)] == [0, 0, 0, 0, 0, 0, 0, 2, 0, 0, 0, 0, 0, 0, 0, 4, 0, 0, 0, 7]);
+}
