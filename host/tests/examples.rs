@@ -1,11 +1,14 @@
-//! The settled examples of document 01, whole: P1 to P11, and those that are run only.
+//! The settled examples of document 01, whole: P1 to P11, and those that are run only. They are run by
+//! the library and by the model.
 
+mod both;
 mod runs;
 mod transcript;
 
+use both::{note, restart, write};
 use gilboreth_host::model::line::line;
 use gilboreth_host::model::locks::{EVENTS_BYTES, TABLE_BYTES};
-use gilboreth_host::model::stripe::{note, restart, write, LOG_BYTES, MAP_BYTES};
+use gilboreth_host::model::stripe::{LOG_BYTES, MAP_BYTES};
 use runs::runs;
 use transcript::{play, play_on};
 

@@ -1,11 +1,14 @@
-//! Cases that the settled examples miss, each worked out by hand from the rules.
+//! Cases that the settled examples miss, each worked out by hand from the rules. They are run by the
+//! library and by the model.
 
+mod both;
 mod runs;
 mod transcript;
 
+use both::{note, restart, write};
 use gilboreth_host::model::locks::encode;
 use gilboreth_host::model::modes::{Mode, State};
-use gilboreth_host::model::stripe::{note, restart, write, LOG_BYTES, MAP_BYTES};
+use gilboreth_host::model::stripe::{LOG_BYTES, MAP_BYTES};
 use gilboreth_host::model::table::{Record, Table};
 use runs::runs;
 use transcript::{play, play_on};

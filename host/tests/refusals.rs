@@ -1,14 +1,14 @@
 //! Every refusal number is reached, in its order, and a refused call changes no byte.
 //!
-//! Each call starts with every fault at once. The faults are mended one by one,
-//! and each time the next number answers.
+//! The calls are the library's and the model's. Each starts with every fault at once. The faults are
+//! mended one by one, and each time the next number answers.
 
+mod both;
 mod runs;
 
-use gilboreth_host::model::locks::{answer, encode, Answer};
+use gilboreth_host::model::locks::{encode, Answer};
 use gilboreth_host::model::modes::{Mode, State};
 use gilboreth_host::model::serve::Message;
-use gilboreth_host::model::stripe;
 use gilboreth_host::model::table::{Record, Table};
 use runs::runs;
 
@@ -40,7 +40,7 @@ fn damaged(mut bytes: Vec<u8>) -> Vec<u8> {
 /// The message must be answered with this number; a refused one changes no byte.
 fn answers(refusal: u64, table: &[u8], event_bytes: usize, message: Message) {
     let (mut new_table, mut events) = (table.to_vec(), vec![0xEE; event_bytes]);
-    let answered = answer(&mut new_table, &mut events, message);
+    let answered = both::serve(&mut new_table, &mut events, message);
     assert_eq!(answered.refusal, refusal, "{message:?}");
     if refusal != 0 {
         assert_eq!(answered, Answer { refusal, handle: 0, events: 0 });
@@ -103,8 +103,7 @@ fn log(count: usize) -> Vec<u8> {
 fn note() {
     let answers = |refusal: u64, map: &[u8], log: &[u8], first, length, number, image_length| {
         let (mut new_map, mut new_log) = (map.to_vec(), log.to_vec());
-        let answered =
-            stripe::note(&mut new_map, &mut new_log, first, length, number, image_length);
+        let answered = both::note(&mut new_map, &mut new_log, first, length, number, image_length);
         assert_eq!(answered, refusal);
         assert_eq!(new_map == map, refusal != 0);
         assert_eq!(new_log == log, refusal != 0);
@@ -127,7 +126,7 @@ fn write() {
     let map = runs(MAP, &[(0, 5, 2)]);
     let answers = |refusal: u64, map: &[u8], first, piece: &[u8], number, image: &[u8]| {
         let mut new_image = *b"......";
-        let answered = stripe::write(map, &mut new_image, first, piece, number);
+        let answered = both::write(map, &mut new_image, first, piece, number);
         assert_eq!(answered, refusal);
         assert_eq!(new_image, image);
     };
@@ -146,7 +145,7 @@ fn write() {
 fn restart() {
     let answers = |refusal: u64, length: usize, log: &[u8]| {
         let mut map = vec![0xEE; length];
-        assert_eq!(stripe::restart(&mut map, log), refusal);
+        assert_eq!(both::restart(&mut map, log), refusal);
         assert_eq!(map == vec![0xEE; length], refusal != 0);
     };
     answers(12, MAP - 1, &damaged(apart(LOG, 1_025)));

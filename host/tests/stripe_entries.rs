@@ -4,9 +4,6 @@ mod stripe_scenes;
 
 use gilboreth_host::beside::Beside;
 use gilboreth_host::calls::LIBRARY;
-use gilboreth_host::model::locks::{EVENTS_BYTES, TABLE_BYTES};
-use gilboreth_host::model::serve::Message;
-use gilboreth_host::model::stripe::{LOG_BYTES, MAP_BYTES};
 use stripe_scenes::{cuts, damage, edges, limits, pieces};
 
 #[test]
@@ -119,33 +116,4 @@ fn each_byte_after_the_runs() {
     let mut library = Beside::new(LIBRARY);
     damage::each_byte_after(&mut library);
     library.reached(40_000, &[12]);
-}
-
-/// Client 1 is granted its lock while client 0, canceling, has not flushed yet. The bytes of the
-/// later grant are stored, the server is cut and restarts, and then the old flush arrives.
-#[test]
-fn the_old_flush_arrives_last_after_a_restart() {
-    let mut library = Beside::new(LIBRARY);
-    let (mut table, mut events) = (vec![0; TABLE_BYTES], vec![0; EVENTS_BYTES]);
-    let mut served = |library: &mut Beside, message| {
-        assert_eq!(library.serve(&mut table, &mut events, message).refusal, 0);
-        // The number of its only event.
-        u64::from(u32::from_be_bytes(events[28..32].try_into().unwrap()))
-    };
-    let request =
-        |client, first, last| Message::Request { client, stripe: 0, mode: 2, first, last };
-    let old = served(&mut library, request(0, 0, 9));
-    served(&mut library, request(1, 4, 7));
-    let later = served(&mut library, Message::Acknowledge { client: 0, handle: 1 });
-    assert_eq!((old, later), (1, 2));
-
-    let (mut map, mut log) = (vec![0; MAP_BYTES], vec![0; LOG_BYTES]);
-    let mut image = *b"..........";
-    assert_eq!(library.note(&mut map, &mut log, 4, 4, later, 10), 0);
-    assert_eq!(library.write(&map, &mut image, 4, b"LLLL", later), 0);
-    map.fill(0xEE);
-    assert_eq!(library.restart(&mut map, &log), 0);
-    assert_eq!(library.note(&mut map, &mut log, 0, 10, old, 10), 0);
-    assert_eq!(library.write(&map, &mut image, 0, b"OOOOOOOOOO", old), 0);
-    assert_eq!(&image, b"OOOOLLLLOO");
 }

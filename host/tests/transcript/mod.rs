@@ -1,10 +1,10 @@
 //! Transcripts: one call to a line. First the message as the line program reads it,
 //! then the answer and the events that must come back, with spaces between.
 
+use crate::both::serve;
 use gilboreth_host::model::line::line;
-use gilboreth_host::model::locks::{
-    acknowledge, downgrade, release, request, Answer, EVENTS_BYTES, TABLE_BYTES,
-};
+use gilboreth_host::model::locks::{Answer, EVENTS_BYTES, TABLE_BYTES};
+use gilboreth_host::model::serve::Message;
 
 /// Plays a transcript from the empty table, and answers the table's bytes at its end.
 /// The line program must give the same lines.
@@ -20,7 +20,7 @@ pub fn play(transcript: &str) -> Vec<u8> {
     table
 }
 
-/// Plays a transcript on a table, through the four entries on bytes.
+/// Plays a transcript on a table, through the four entries on bytes: the library's and the model's.
 pub fn play_on(table: &mut [u8], transcript: &str) {
     for call in calls(transcript) {
         assert_eq!(served(table, &call[0]), call[1..], "{}", call[0]);
@@ -40,14 +40,16 @@ fn served(table: &mut [u8], message: &str) -> Vec<String> {
     let n: Vec<u64> = fields.split(',').map(|field| field.parse().unwrap()).collect();
     let mut buffer = vec![0xEE; EVENTS_BYTES + 5];
     let (old_table, old_buffer) = (table.to_vec(), buffer.clone());
-    let answer = match letter {
-        "R" => request(table, &mut buffer, n[0], n[1], n[2], n[3], n[4]),
-        "A" => acknowledge(table, &mut buffer, n[0], n[1]),
-        "D" => downgrade(table, &mut buffer, n[0], n[1]),
-        "F" => release(table, &mut buffer, n[0], n[1]),
+    let message = match (letter, n.as_slice()) {
+        ("R", &[client, stripe, mode, first, last]) => {
+            Message::Request { client, stripe, mode, first, last }
+        }
+        ("A", &[client, handle]) => Message::Acknowledge { client, handle },
+        ("D", &[client, handle]) => Message::Downgrade { client, handle },
+        ("F", &[client, handle]) => Message::Release { client, handle },
         _ => panic!("no such message: {message}"),
     };
-    let Answer { refusal, handle, events } = answer;
+    let Answer { refusal, handle, events } = serve(table, &mut buffer, message);
     let mut lines = vec![format!("=,{refusal},{handle}")];
     if refusal == 0 {
         let end = 4 + 44 * events as usize;

@@ -1,0 +1,257 @@
+//! The seam of both halves: a byte under two write grants of a stripe is at the end the later
+//! grant's, in whatever order the flushes arrive, with cuts and restarts anywhere.
+
+use gilboreth_host::random::{for_seeds, Random};
+use gilboreth_host::{
+    Answer, EventBuffer, Handle, Kind, Log, Map, Mode, Number, Record, Refusal, Table,
+};
+
+/// A stripe of a server: its map in memory, its log and image on disk.
+struct Stripe {
+    map: Map,
+    log: Log,
+    image: Vec<u8>,
+}
+
+impl Stripe {
+    fn new(image: &[u8]) -> Stripe {
+        Stripe { map: Map::new(), log: Log::new(), image: image.to_vec() }
+    }
+
+    fn note(&mut self, first: u64, piece: &[u8], number: Number) -> Result<(), Refusal> {
+        let image_length = self.image.len() as u64;
+        self.map.note(&mut self.log, first, piece.len() as u64, number, image_length)
+    }
+
+    fn write(&mut self, first: u64, piece: &[u8], number: Number) -> Result<(), Refusal> {
+        self.map.write(&mut self.image, first, piece, number)
+    }
+
+    fn flush(&mut self, first: u64, piece: &[u8], number: Number) {
+        self.note(first, piece, number).unwrap();
+        self.write(first, piece, number).unwrap();
+    }
+
+    /// The server is cut and comes back. The map is lost, and no restart is refused.
+    fn cut(&mut self) {
+        self.map.bytes_mut().fill(0xEE);
+        self.map.restart(&self.log).unwrap();
+    }
+
+    /// A cut in a note leaves the log as it was, with anything past its entries.
+    fn cut_note_and_old_log(&mut self) {
+        let end = Log::entry(self.log.entries().len()).start;
+        self.log.bytes_mut()[end..].fill(0xEE);
+        self.cut();
+    }
+
+    /// A cut in a note leaves the new log.
+    fn cut_note_and_new_log(&mut self, first: u64, piece: &[u8], number: Number) {
+        self.note(first, piece, number).unwrap();
+        self.cut();
+    }
+
+    /// A cut in a write leaves anything at the places that it would store.
+    fn cut_write(
+        &mut self,
+        first: u64,
+        piece: &[u8],
+        number: Number,
+        mut left: impl FnMut() -> u8,
+    ) {
+        let numbers: Vec<Number> =
+            (first..).zip(piece).map(|(at, _)| self.map.number_at(at)).collect();
+        if numbers.iter().all(|&under| under >= number) {
+            for (place, _) in numbers.iter().enumerate().filter(|(_, &under)| under == number) {
+                self.image[first as usize + place] = left();
+            }
+        }
+        self.cut();
+    }
+}
+
+/// The only event of an accepted message is a grant; this is its number.
+fn granted(answer: Result<Answer, Refusal>) -> Number {
+    let events: Vec<_> = answer.unwrap().events.collect();
+    assert_eq!((events.len(), events[0].kind), (1, Kind::Grant));
+    events[0].record.number
+}
+
+/// Client 0 holds a stripe. Client 1 asks for the bytes 4 to 7 of it, and is granted them once
+/// client 0 has acknowledged, which has not flushed yet.
+fn two_grants() -> (Number, Number) {
+    let (mut table, mut events) = (Table::new(), EventBuffer::new());
+    let old = granted(table.request(&mut events, 0, 0, Mode::NBW, 0, 9));
+    table.request(&mut events, 1, 0, Mode::NBW, 4, 7).unwrap();
+    let later = granted(table.acknowledge(&mut events, 0, Handle(1)));
+    (old, later)
+}
+
+#[test]
+fn the_old_flush_arrives_last() {
+    let (old, later) = two_grants();
+    let mut stripe = Stripe::new(b"..........");
+    stripe.flush(4, b"LLLL", later);
+    stripe.flush(0, b"OOOOOOOOOO", old);
+    assert_eq!(stripe.image, b"OOOOLLLLOO");
+}
+
+#[test]
+fn the_old_flush_arrives_last_after_a_restart() {
+    let (old, later) = two_grants();
+    let mut stripe = Stripe::new(b"..........");
+    stripe.flush(4, b"LLLL", later);
+    stripe.cut();
+    stripe.flush(0, b"OOOOOOOOOO", old);
+    assert_eq!(stripe.image, b"OOOOLLLLOO");
+}
+
+/// The old flush is cut again and again: in its note, before and after the log has its entry, and in
+/// its write. Each time the server comes back and the piece is sent again.
+#[test]
+fn the_old_flush_arrives_last_after_cuts() {
+    let (old, later) = two_grants();
+    let mut stripe = Stripe::new(b"..........");
+    stripe.flush(4, b"LLLL", later);
+    stripe.cut_note_and_old_log();
+    stripe.cut_note_and_new_log(0, b"OOOOOOOOOO", old);
+    stripe.cut_write(0, b"OOOOOOOOOO", old, || b'?');
+    assert_eq!(stripe.image, b"????LLLL??");
+    stripe.write(0, b"OOOOOOOOOO", old).unwrap();
+    assert_eq!(stripe.image, b"OOOOLLLLOO");
+}
+
+/// The later grant's write was cut before the old flush arrived. Its place isn't taken.
+#[test]
+fn the_old_flush_arrives_between_a_cut_and_the_resend() {
+    let (old, later) = two_grants();
+    let mut stripe = Stripe::new(b"..........");
+    stripe.note(4, b"LLLL", later).unwrap();
+    stripe.cut_write(4, b"LLLL", later, || b'?');
+    stripe.flush(0, b"OOOOOOOOOO", old);
+    assert_eq!(stripe.image, b"OOOO????OO");
+    stripe.write(4, b"LLLL", later).unwrap();
+    assert_eq!(stripe.image, b"OOOOLLLLOO");
+}
+
+const IMAGE: u64 = 48;
+
+/// The write grants of stripe 0 over a session, in the order in which they came.
+fn grants(random: &mut Random) -> Vec<Record> {
+    let (mut table, mut events) = (Table::new(), EventBuffer::new());
+    let mut grants = Vec::new();
+    for _ in 0..60 {
+        let records: Vec<Record> = table.records().collect();
+        let answer = if records.is_empty() || random.once_in(3) {
+            let (client, mode) = (random.below(4), 1 + random.below(4));
+            let stripe = u64::from(random.once_in(4));
+            let first = random.below(IMAGE);
+            let last = first + random.below(12);
+            table.request(&mut events, client, stripe, mode, first, last)
+        } else {
+            let Record { client, handle, .. } = random.pick(&records);
+            match random.below(4) {
+                0 | 1 => table.acknowledge(&mut events, client, handle),
+                2 => table.downgrade(&mut events, client, handle),
+                _ => table.release(&mut events, client, handle),
+            }
+        };
+        let events = answer.into_iter().flat_map(|answer| answer.events);
+        let granted = events.filter(|event| event.kind == Kind::Grant).map(|event| event.record);
+        grants.extend(granted.filter(|lock| lock.stripe == 0 && lock.mode != Mode::PR));
+    }
+    grants
+}
+
+/// A piece of a grant: the place of the grant in its session, and the piece.
+struct Piece {
+    grant: usize,
+    number: Number,
+    first: u64,
+    bytes: Vec<u8>,
+    noted: bool,
+}
+
+/// The byte that a grant's holder has at a place. It flushes each byte once, so its pieces agree.
+/// Two of the first hundred grants have different bytes.
+fn byte(grant: usize, place: u64) -> u8 {
+    (grant as u64 + 1 + 100 * (place % 2)) as u8
+}
+
+/// One to three pieces of each grant, inside of its range.
+fn pieces(random: &mut Random, grants: &[Record]) -> Vec<Piece> {
+    let mut pieces = Vec::new();
+    for (grant, lock) in grants.iter().enumerate() {
+        let end = (lock.last + 1).min(IMAGE);
+        for _ in 0..1 + random.below(3) {
+            let first = lock.first + random.below(end - lock.first);
+            let last = first + random.below(end - first);
+            let bytes = (first..=last).map(|place| byte(grant, place)).collect();
+            pieces.push(Piece { grant, number: lock.number, first, bytes, noted: false });
+        }
+    }
+    pieces
+}
+
+/// Flushes at random, many of them cut. Then the flushes come to their end from the latest grant to
+/// the oldest, each after a cut or not: the older a flush, the later it arrives.
+#[test]
+fn flushes_in_any_order() {
+    let mut contested = 0;
+    for_seeds(0..1_000, |random| {
+        let grants = grants(random);
+        let mut pieces = pieces(random, &grants);
+        let mut began = vec![0; IMAGE as usize];
+        random.fill(&mut began);
+        let mut stripe = Stripe::new(&began);
+        for _ in 0..pieces.len() * 2 {
+            let place = random.below(pieces.len() as u64) as usize;
+            step(&mut stripe, random, &mut pieces[place]);
+        }
+        for piece in pieces.iter_mut().rev() {
+            if random.once_in(2) {
+                stripe.cut();
+            }
+            if !piece.noted {
+                stripe.note(piece.first, &piece.bytes, piece.number).unwrap();
+                piece.noted = true;
+            }
+            stripe.write(piece.first, &piece.bytes, piece.number).unwrap();
+        }
+
+        for place in 0..IMAGE {
+            let over = |piece: &&Piece| {
+                piece.noted
+                    && (piece.first..piece.first + piece.bytes.len() as u64).contains(&place)
+            };
+            let over: Vec<usize> = pieces.iter().filter(over).map(|piece| piece.grant).collect();
+            let later = over.iter().copied().max();
+            contested += usize::from(over.iter().any(|&grant| Some(grant) != later));
+            let expected = later.map_or(began[place as usize], |grant| byte(grant, place));
+            assert_eq!(stripe.image[place as usize], expected, "byte {place}");
+        }
+    });
+    assert!(contested > 10_000, "{contested} bytes under pieces of two grants");
+}
+
+/// One note or write of a piece, cut or whole.
+fn step(stripe: &mut Stripe, random: &mut Random, piece: &mut Piece) {
+    let Piece { number, first, bytes, noted, .. } = piece;
+    match random.below(8) {
+        0 => stripe.cut_note_and_old_log(),
+        1 => {
+            stripe.cut_note_and_new_log(*first, bytes, *number);
+            *noted = true;
+        }
+        2 | 3 => {
+            stripe.note(*first, bytes, *number).unwrap();
+            *noted = true;
+        }
+        4 => stripe.cut_write(*first, bytes, *number, || random.draw() as u8),
+        5 => stripe.cut(),
+        _ => {
+            let written = stripe.write(*first, bytes, *number);
+            assert!(written.is_ok() || (!*noted && written == Err(Refusal::Smaller)));
+        }
+    }
+}
