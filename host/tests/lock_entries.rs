@@ -101,6 +101,13 @@ fn numbers_of_messages() {
 }
 
 #[test]
+fn fields() {
+    let mut library = Beside::new(LIBRARY);
+    edges::fields(&mut library);
+    library.reached(8_000, &[0, 2, 7, 10, 11]);
+}
+
+#[test]
 fn lengths() {
     let mut library = Beside::new(LIBRARY);
     edges::lengths(&mut library);

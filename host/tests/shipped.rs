@@ -25,6 +25,7 @@ fn locks() {
     damage::pairs(&mut shipped, 0..500);
     damage::each_byte_after(&mut shipped);
     edges::numbers(&mut shipped);
+    edges::fields(&mut shipped);
     edges::lengths(&mut shipped);
     shipped.reached(80_000, &[0, 1, 2, 3, 4, 5, 6, 7, 8, 9, 10, 11]);
 }
@@ -44,6 +45,8 @@ fn stripe() {
     limits::full_logs(&mut shipped, 0..2);
     edges::notes(&mut shipped);
     edges::writes(&mut shipped);
+    edges::fields(&mut shipped);
+    edges::counts(&mut shipped);
     edges::lengths(&mut shipped);
     damage::flips(&mut shipped, 0..100);
     damage::each_bit(&mut shipped);

@@ -84,6 +84,20 @@ fn numbers_of_writes() {
 }
 
 #[test]
+fn fields() {
+    let mut library = Beside::new(LIBRARY);
+    edges::fields(&mut library);
+    library.reached(1_280, &[0, 12, 13]);
+}
+
+#[test]
+fn counts() {
+    let mut library = Beside::new(LIBRARY);
+    edges::counts(&mut library);
+    library.reached(120, &[0, 12, 13, 16, 17, 18]);
+}
+
+#[test]
 fn lengths() {
     let mut library = Beside::new(LIBRARY);
     edges::lengths(&mut library);

@@ -4,18 +4,34 @@ use crate::messages::message;
 use gilboreth_host::beside::Beside;
 use gilboreth_host::model::locks::{encode, EVENTS_BYTES};
 use gilboreth_host::model::modes::{Mode, State};
+use gilboreth_host::model::serve::obstacle;
 use gilboreth_host::model::table::{Record, Table, RECORDS, STRIPES};
 use gilboreth_host::model::{EOF, HIGHEST};
 use gilboreth_host::random::{for_seeds, Random};
 use std::ops::Range;
 
-/// Few records on two stripes and crowded ranges.
+/// Few records on two stripes and crowded ranges. Of these tables at least one in ten is settled, and
+/// at least one in four is not.
 pub fn small(beside: &mut Beside, seeds: Range<u64>) {
+    let (mut settled, mut unsettled) = (0, 0);
     for_seeds(seeds, |random| {
         let records = random.below(20);
         let table = table(random, records, 2, 24);
+        *if is_settled(&table) { &mut settled } else { &mut unsettled } += 1;
         messages(beside, random, &table, 8);
     });
+    let all = settled + unsettled;
+    assert!(10 * settled >= all && 4 * unsettled >= all, "{settled} settled, {unsettled} not");
+}
+
+/// Each waiting request has an obstacle, and no lock in state 1 conflicts with a waiting request.
+fn is_settled(table: &Table) -> bool {
+    let records = || table.records.iter();
+    let at_rest = |request: &Record| {
+        records().any(|other| obstacle(request, other))
+            && !records().any(|lock| lock.state == State::Granted && request.conflicts_with(lock))
+    };
+    records().filter(|record| record.waiting()).all(at_rest)
 }
 
 /// Up to 256 records on all stripes and wide ranges.

@@ -1,6 +1,7 @@
-//! Buffers one byte short and one long, and numbers at their limits, one past and far off.
+//! Buffers one byte short and one long; numbers, and the fields of a table, at their limits, one past
+//! and far off.
 
-use crate::tables::table;
+use crate::tables::{table, with};
 use gilboreth_host::beside::Beside;
 use gilboreth_host::model::locks::{EVENTS_BYTES, TABLE_BYTES};
 use gilboreth_host::model::serve::Message;
@@ -40,6 +41,33 @@ fn naming(client: u64, handle: u64) -> [Message; 3] {
         Message::Downgrade { client, handle },
         Message::Release { client, handle },
     ]
+}
+
+/// Each integer of a record's six, each half of its range, and each integer before the records, at 0,
+/// at its limits and past them, one at a time; a range also as a whole.
+pub fn fields(beside: &mut Beside) {
+    let integers = [0, 1, 2, 3, 4, 5, 6, 7, 8, 15, 16, 63, 64, 255, 256, 257, 0x7FFF_FFFF];
+    let mut tables = Vec::new();
+    for at in (0..312).step_by(4) {
+        for integer in integers.into_iter().chain([0x8000_0000, u32::MAX - 1, u32::MAX]) {
+            tables.push(with(table(), &[(at, integer)]));
+        }
+    }
+    for record_at in (72..312).step_by(40) {
+        for (first, last) in BYTES.into_iter().flat_map(|first| BYTES.map(|last| (first, last))) {
+            let mut table = table();
+            table[record_at + 24..record_at + 32].copy_from_slice(&first.to_be_bytes());
+            table[record_at + 32..record_at + 40].copy_from_slice(&last.to_be_bytes());
+            tables.push(table);
+        }
+    }
+    let mut events = vec![0xEE; EVENTS_BYTES];
+    let request = Message::Request { client: 5, stripe: 0, mode: 2, first: 0, last: 9 };
+    for table in tables {
+        for message in naming(5, 4).into_iter().chain([request]) {
+            beside.serve(&mut table.clone(), &mut events, message);
+        }
+    }
 }
 
 /// Tables and event buffers of other lengths. Bytes after the events stay in a longer buffer.

@@ -1,5 +1,7 @@
-//! Buffers one byte short and one long, and numbers at their limits, one past and near 2^64.
+//! Buffers one byte short and one long; numbers, and the fields of a run, at their limits, one past
+//! and near 2^64.
 
+use super::apart;
 use gilboreth_host::beside::Beside;
 use gilboreth_host::model::runs::Run;
 use gilboreth_host::model::stripe::{encode_log, encode_map, LOG_BYTES, MAP_BYTES};
@@ -39,6 +41,39 @@ pub fn writes(beside: &mut Beside) {
             }
         }
     }
+}
+
+/// Every choice of first, last and number for the last run of a map and the last entry of a log.
+pub fn fields(beside: &mut Beside) {
+    let firsts = [0, 1, 19, 20, 30, EOF, EOF + 1, MOST];
+    let lasts = [0, 1, 30, 39, EOF - 1, EOF, EOF + 1, MOST];
+    for (first, last) in choices(&firsts, &lasts) {
+        for number in [0, 1, 5, HIGHEST] {
+            let runs = [Run { first: 10, last: 19, number: 5 }, Run { first, last, number }];
+            judged(beside, &encode_map(&runs), &encode_log(&runs));
+        }
+    }
+}
+
+/// Every count up to its limit and past it, over a full map and a full log, and over empty ones.
+pub fn counts(beside: &mut Beside) {
+    for count in [0, 1, 2, 1_023, 1_024, 1_025, 2_047, 2_048, 2_049, 65_536, 1 << 24, u32::MAX] {
+        let full = (encode_map(&apart(1_024, 5)), encode_log(&apart(2_048, 5)));
+        for (mut map, mut log) in [full, (encode_map(&[]), encode_log(&[]))] {
+            map[..4].copy_from_slice(&count.to_be_bytes());
+            log[..4].copy_from_slice(&count.to_be_bytes());
+            judged(beside, &map, &log);
+        }
+    }
+}
+
+/// A note, a write and a restart on this map and this log; the note with a sound one beside, too.
+fn judged(beside: &mut Beside, map: &[u8], log: &[u8]) {
+    beside.write(map, &mut [0; 40], 10, b"piece", 5);
+    beside.restart(&mut vec![0xEE; MAP_BYTES], log);
+    beside.note(&mut map.to_vec(), &mut log.to_vec(), 10, 5, 6, 40);
+    beside.note(&mut map.to_vec(), &mut encode_log(&[]), 10, 5, 6, 40);
+    beside.note(&mut encode_map(&[]), &mut log.to_vec(), 10, 5, 6, 40);
 }
 
 /// Maps and logs of every wrong length near the right one, each with the other right and wrong.
