@@ -8,8 +8,7 @@ run:
 	@tools/missing run 'the line program'
 
 bench:
-	@rt staticlib gilboreth >&2
-	@tools/host run --release --bin bench
+	@tools/bench
 
 example:
 	@tools/missing example 'the C header and the example daemon'

@@ -3,7 +3,7 @@
 use gilboreth_host::calls::{Calls, LIBRARY, SHIPPED};
 use std::time::{Duration, Instant};
 
-pub const ROUNDS: usize = 11;
+pub const ROUNDS: usize = 25;
 /// A round takes about as long.
 const ROUND: Duration = Duration::from_millis(10);
 
@@ -15,11 +15,14 @@ fn copy(_: &[u8], image: &mut [u8], first: u64, piece: &[u8], _: u64) -> u64 {
     0
 }
 
-/// A call on two buffers, as they are before it. It is accepted.
+/// A call on two buffers, which answers a refusal number.
+type Call<'a> = &'a dyn Fn(&Calls, &mut [u8], &mut [u8]) -> u64;
+
+/// A call, and its buffers as they are before it. It is accepted.
 pub struct Case<'a> {
     pub name: String,
     pub buffers: [Vec<u8>; 2],
-    pub call: &'a dyn Fn(&Calls, &mut [u8], &mut [u8]) -> u64,
+    pub call: Call<'a>,
 }
 
 impl Case<'_> {
@@ -56,25 +59,43 @@ impl Case<'_> {
         times.map(|times| median(times).saturating_sub(clock))
     }
 
-    /// Measures the case and prints its row.
+    /// Measures the case and prints its row. Wanted is at most 2 times the Rust.
     pub fn row(&self) {
-        self.agree();
+        self.begin();
         let [library, shipped] = self.medians([LIBRARY, SHIPPED]);
-        println!("{}", self.line(library, shipped));
+        self.print([library, shipped], library <= 2 * shipped, ["", "", ""].map(String::from));
     }
 
-    /// The same with memcpy beside.
-    pub fn row_beside_memcpy(&self) {
-        self.agree();
+    /// The same where at most so long is wanted.
+    pub fn row_within(&self, wanted: Duration) {
+        self.begin();
+        let [library, shipped] = self.medians([LIBRARY, SHIPPED]);
+        self.print([library, shipped], library <= wanted, ["", "", ""].map(String::from));
+    }
+
+    /// The same for a write of so many bytes, with memcpy beside. Wanted is at most 2 times the Rust,
+    /// and at least so much of memcpy's speed.
+    pub fn row_beside_memcpy(&self, bytes: u64, wanted: f64) {
+        self.begin();
         let [library, shipped, memcpy] = self.medians([LIBRARY, SHIPPED, MEMCPY]);
-        println!("{} {:>10.3}", self.line(library, shipped), micros(memcpy));
+        let speed = micros(memcpy) / micros(library);
+        let rate = bytes as f64 / 1_000.0 / micros(library);
+        let beside = [figure(memcpy), format!("{speed:.2}"), format!("{rate:.1}")];
+        self.print([library, shipped], library <= 2 * shipped && speed >= wanted, beside);
     }
 
-    fn line(&self, library: Duration, shipped: Duration) -> String {
-        let ratio = micros(library) / micros(shipped);
-        let mark = if ratio > 2.0 { '*' } else { ' ' };
-        let (library, shipped) = (micros(library), micros(shipped));
-        format!("{:48} {library:>10.3} {shipped:>10.3} {ratio:>6.1} {mark}", self.name)
+    fn begin(&self) {
+        eprintln!("{}", self.name);
+        self.agree();
+    }
+
+    fn print(&self, times: [Duration; 2], as_wanted: bool, beside: [String; 3]) {
+        let ratio = micros(times[0]) / micros(times[1]);
+        let mark = if as_wanted { ' ' } else { '*' };
+        let ratio = format!("{ratio:.1} {mark}");
+        let [library, shipped] = times.map(figure);
+        let [memcpy, speed, rate] = beside;
+        line([&self.name, &library, &shipped, &ratio, &memcpy, &speed, &rate]);
     }
 
     /// Both sides make the same of the buffers.
@@ -85,6 +106,27 @@ impl Case<'_> {
             fresh
         });
         assert!(left[0] == left[1], "{}", self.name);
+    }
+}
+
+/// The columns of the table, and the line below them. In Markdown the table stays one.
+pub fn head() {
+    line(["call", "library", "Rust", "ratio  ", "memcpy", "of memcpy", "GB/s"]);
+    println!("|{:-<50}|{}", "", ["----------:|"; 6].concat());
+}
+
+fn line([name, fields @ ..]: [&str; 7]) {
+    let fields: String = fields.iter().map(|field| format!(" {field:>9} |")).collect();
+    println!("| {name:<48} |{fields}");
+}
+
+/// Microseconds, with two decimals as long as they say something.
+fn figure(time: Duration) -> String {
+    let micros = micros(time);
+    if micros < 100.0 {
+        format!("{micros:.2}")
+    } else {
+        format!("{micros:.0}")
     }
 }
 
