@@ -9,6 +9,7 @@ use crate::model::locks::{decode, Answer};
 use crate::model::serve::Message;
 use std::collections::BTreeSet;
 use std::fmt::{Arguments, Debug};
+use std::panic::{catch_unwind, AssertUnwindSafe};
 
 pub struct Beside {
     calls: Calls,
@@ -133,6 +134,12 @@ impl Beside {
             }
         }
     }
+}
+
+/// Whether a scene finds these calls out: it ends at a call that isn't the model's.
+pub fn finds_out(calls: Calls, scene: impl FnOnce(&mut Beside)) -> bool {
+    let mut beside = Beside::new(calls);
+    catch_unwind(AssertUnwindSafe(|| scene(&mut beside))).is_err()
 }
 
 /// A copy of a buffer between guards, lent to the calls under test in the buffer's place.

@@ -4,8 +4,9 @@ mod lock_scenes;
 mod messages;
 mod tables;
 
-use gilboreth_host::beside::Beside;
-use gilboreth_host::calls::LIBRARY;
+use gilboreth_host::beside::{finds_out, Beside};
+use gilboreth_host::calls::{Calls, LIBRARY};
+use gilboreth_host::model::locks::Answer;
 use lock_scenes::{damage, drawn, edges, limits, sessions};
 
 /// Four sorts of sessions, which differ in how fast their tables fill. They reach every refusal
@@ -112,4 +113,64 @@ fn lengths() {
     let mut library = Beside::new(LIBRARY);
     edges::lengths(&mut library);
     library.reached(576, &[0, 1, 2, 3, 11]);
+}
+
+/// Useless versions, and some that are nearly right: the scenes find each of them out.
+#[test]
+fn wrong_versions() {
+    let request: [(&str, Calls); 4] = [
+        (
+            "every request is refused",
+            Calls {
+                request: |_, _, _, _, _, _, _| Answer { refusal: 8, handle: 0, events: 0 },
+                ..LIBRARY
+            },
+        ),
+        (
+            "one fixed answer",
+            Calls {
+                request: |table, events, client, stripe, mode, first, last| Answer {
+                    handle: 1,
+                    ..(LIBRARY.request)(table, events, client, stripe, mode, first, last)
+                },
+                ..LIBRARY
+            },
+        ),
+        (
+            "an event count that isn't that of the list",
+            Calls {
+                request: |table, events, client, stripe, mode, first, last| {
+                    let answer =
+                        (LIBRARY.request)(table, events, client, stripe, mode, first, last);
+                    Answer { events: answer.events.min(1), ..answer }
+                },
+                ..LIBRARY
+            },
+        ),
+        (
+            "the bytes after the events are cleared",
+            Calls {
+                request: |table, events, client, stripe, mode, first, last| {
+                    let answer =
+                        (LIBRARY.request)(table, events, client, stripe, mode, first, last);
+                    if answer.refusal == 0 {
+                        events[4 + 44 * answer.events as usize..].fill(0);
+                    }
+                    answer
+                },
+                ..LIBRARY
+            },
+        ),
+    ];
+    let release = Calls {
+        release: |table, events, client, handle| {
+            (LIBRARY.release)(&mut table.to_vec(), events, client, handle)
+        },
+        ..LIBRARY
+    };
+    for (name, calls) in request {
+        assert!(finds_out(calls, |wrong| sessions::play(wrong, 0..20, 4)), "{name}");
+    }
+    assert!(finds_out(release, |wrong| limits::full_tables(wrong, 0..1)), "no room is used again");
+    assert!(!finds_out(LIBRARY, |right| sessions::play(right, 0..20, 4)));
 }

@@ -2,8 +2,8 @@
 
 mod stripe_scenes;
 
-use gilboreth_host::beside::Beside;
-use gilboreth_host::calls::LIBRARY;
+use gilboreth_host::beside::{finds_out, Beside};
+use gilboreth_host::calls::{Calls, LIBRARY};
 use stripe_scenes::{cuts, damage, edges, limits, pieces};
 
 #[test]
@@ -130,4 +130,98 @@ fn each_byte_after_the_runs() {
     let mut library = Beside::new(LIBRARY);
     damage::each_byte_after(&mut library);
     library.reached(40_000, &[12]);
+}
+
+/// Versions that answer as the library does and leave something else: the scenes find each of them out.
+#[test]
+fn wrong_versions() {
+    let note: [(&str, Calls); 4] = [
+        ("a note that does nothing", Calls { note: |_, _, _, _, _, _| 0, ..LIBRARY }),
+        (
+            "a note that leaves the map",
+            Calls {
+                note: |map, log, first, length, number, image_length| {
+                    (LIBRARY.note)(&mut map.to_vec(), log, first, length, number, image_length)
+                },
+                ..LIBRARY
+            },
+        ),
+        (
+            "a note that leaves the log",
+            Calls {
+                note: |map, log, first, length, number, image_length| {
+                    (LIBRARY.note)(map, &mut log.to_vec(), first, length, number, image_length)
+                },
+                ..LIBRARY
+            },
+        ),
+        (
+            "a note that clears the byte after its entry",
+            Calls {
+                note: |map, log, first, length, number, image_length| {
+                    let answer = (LIBRARY.note)(map, log, first, length, number, image_length);
+                    log[4 + 20 * log[3] as usize] = 0;
+                    answer
+                },
+                ..LIBRARY
+            },
+        ),
+    ];
+    let write: [(&str, Calls); 3] = [
+        ("a write that does nothing", Calls { write: |_, _, _, _, _| 0, ..LIBRARY }),
+        (
+            "a write by arrival",
+            Calls {
+                write: |map, image, first, piece, number| {
+                    let answer = (LIBRARY.write)(map, image, first, piece, number);
+                    if answer == 0 {
+                        image[first as usize..][..piece.len()].copy_from_slice(piece);
+                    }
+                    answer
+                },
+                ..LIBRARY
+            },
+        ),
+        (
+            "a write that refuses an equal number",
+            Calls {
+                write: |map, image, first, piece, number| {
+                    let mut stored = image.to_vec();
+                    let answer = (LIBRARY.write)(map, &mut stored, first, piece, number);
+                    if answer == 0 && stored != image {
+                        return 18;
+                    }
+                    answer
+                },
+                ..LIBRARY
+            },
+        ),
+    ];
+    let restart = Calls {
+        restart: |map, log| {
+            let answer = (LIBRARY.restart)(map, log);
+            map.fill(0);
+            answer
+        },
+        ..LIBRARY
+    };
+    let refused = Calls {
+        note: |map, log, first, length, number, image_length| {
+            let answer = (LIBRARY.note)(map, log, first, length, number, image_length);
+            let full = map[..4] == 1_024_u32.to_be_bytes();
+            if full && answer == 0 {
+                16
+            } else {
+                answer
+            }
+        },
+        ..LIBRARY
+    };
+    for (name, calls) in note.into_iter().chain(write) {
+        assert!(finds_out(calls, |wrong| pieces::small(wrong, 0..20)), "{name}");
+        assert!(finds_out(calls, |wrong| cuts::crowded(wrong, 0..20)), "{name}");
+    }
+    assert!(finds_out(restart, |wrong| pieces::small(wrong, 0..20)), "an empty map");
+    assert!(finds_out(refused, limits::notes), "16 at 1,024 runs");
+    assert!(!finds_out(LIBRARY, |right| pieces::small(right, 0..20)));
 }
