@@ -2,6 +2,18 @@
 //!
 //! They are safe to call. C is asked for buffers that don't overlap and for no null pointer, also at
 //! length 0. A slice is never null, and where two slices of one call overlap both are only read.
+//!
+//! ```
+//! use gilboreth_host::entries::{note, request, Answer};
+//!
+//! let (mut table, mut events) = ([0; 10_312], [0; 11_268]);
+//! let answer = request(&mut table, &mut events, 0, 0, 2, 0, 20);
+//! assert_eq!(answer, Answer { refusal: 0, handle: 1, events: 1 });
+//!
+//! let (mut map, mut log) = ([0; 20_484], [0; 40_964]);
+//! assert_eq!(note(&mut map, &mut log, 4, 0, 1, 10), 14);
+//! assert_eq!(note(&mut map, &mut log[1..], 4, 4, 1, 10), 13);
+//! ```
 
 /// A message's answer as C returns it, by value. A refused one has handle 0 and event count 0.
 #[repr(C)]

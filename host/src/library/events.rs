@@ -5,6 +5,7 @@ use super::codes::Handle;
 use super::records::Record;
 use super::refusal::{accepted, Refusal};
 use crate::entries;
+use std::fmt::{Debug, Formatter, Result as Formatted};
 use std::iter::FusedIterator;
 use std::slice::ChunksExact;
 
@@ -16,6 +17,12 @@ const EVENTS: usize = 256;
 buffer! {
     /// Room for the events of one message, 11,268 bytes. It is used again for the next one.
     EventBuffer, 4 + EVENT * EVENTS
+}
+
+impl Debug for EventBuffer {
+    fn fmt(&self, f: &mut Formatter) -> Formatted {
+        f.debug_struct("EventBuffer").finish_non_exhaustive()
+    }
 }
 
 /// What an accepted message answers: the handle that it made or named, and its events.

@@ -78,6 +78,21 @@ impl Table {
     }
 
     /// A canceling BW or PW becomes NBW, which others may pass.
+    ///
+    /// ```
+    /// use gilboreth_host::{EventBuffer, Handle, Mode, Refusal, Table};
+    ///
+    /// let (mut table, mut events) = (Table::new(), EventBuffer::new());
+    /// table.request(&mut events, 0, 0, Mode::BW, 0, 9)?;
+    /// table.request(&mut events, 1, 0, Mode::NBW, 0, 9)?;
+    /// let answer = table.acknowledge(&mut events, 0, Handle(1))?;
+    /// assert_eq!(answer.events.len(), 0);
+    /// let mut answer = table.downgrade(&mut events, 0, Handle(1))?;
+    /// assert_eq!(answer.events.next().unwrap().record.handle, Handle(2));
+    /// let again = table.downgrade(&mut events, 0, Handle(1));
+    /// assert_eq!(again.unwrap_err(), Refusal::State);
+    /// # Ok::<(), Refusal>(())
+    /// ```
     pub fn downgrade<'e>(
         &mut self,
         events: &'e mut EventBuffer,
@@ -89,6 +104,19 @@ impl Table {
     }
 
     /// A holder gives its lock back. On a waiting request it withdraws it.
+    ///
+    /// ```
+    /// use gilboreth_host::{EventBuffer, Handle, Mode, Refusal, Table};
+    ///
+    /// let (mut table, mut events) = (Table::new(), EventBuffer::new());
+    /// table.request(&mut events, 0, 0, Mode::PW, 0, 9)?;
+    /// table.request(&mut events, 1, 0, Mode::PR, 0, 9)?;
+    /// let mut answer = table.release(&mut events, 0, Handle(1))?;
+    /// assert_eq!(answer.events.next().unwrap().record.handle, Handle(2));
+    /// let again = table.release(&mut events, 0, Handle(1));
+    /// assert_eq!(again.unwrap_err(), Refusal::NoRecord);
+    /// # Ok::<(), Refusal>(())
+    /// ```
     pub fn release<'e>(
         &mut self,
         events: &'e mut EventBuffer,
