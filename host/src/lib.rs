@@ -36,6 +36,12 @@
 //! call that is refused answers a [`Refusal`] and changes nothing. What the library promises, for
 //! every input, is in docs/READING.md.
 //!
+//! # Linking
+//!
+//! The crate links `libgilboreth.a`, which is for x86-64, from the repository's target/staticlib, where
+//! `rt staticlib gilboreth` writes it. `GIL_ARCHIVE_DIR` names another directory, as where the library
+//! is installed.
+//!
 //! # What is where
 //!
 //! The library for other programs is what stands at the top of this crate. [`entries`] is the same

@@ -122,8 +122,8 @@ fn table(count: u64, record: impl Fn(Record) -> Record) -> Vec<u8> {
     encode(&table)
 }
 
-/// A request for NBW on [0,9] of stripe 0, beside locks that it doesn't meet or among records that
-/// it meets.
+/// A request for NBW on the bytes 0 to 9 of stripe 0, beside locks that it doesn't meet or among
+/// records that it meets.
 fn requests() {
     let row = |name: String, table: Vec<u8>| {
         Case {
