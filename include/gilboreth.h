@@ -1,0 +1,372 @@
+/* gilboreth.h: the lock table of one server, and the note-and-write path of one stripe.
+ *
+ * Link with libgilboreth.a (x86-64). `pkg-config --cflags --libs gilboreth` gives the flags.
+ * The code of the seven calls is proved. For every input its contracts allow one answer, and one later
+ * content of each buffer.
+ *
+ * In this file:
+ *   1. Rules that no code can check. Read these first.
+ *   2. Cuts: what must be durable, and in which order.
+ *   3. Sizes, limits and codes.
+ *   4. Refusals, and what to do about each.
+ *   5. The lock table: request, acknowledge, downgrade, release, and their events.
+ *   6. The stripe: note, write, restart.
+ */
+#ifndef GILBORETH_H
+#define GILBORETH_H
+
+#include <stddef.h>
+#include <stdint.h>
+
+#ifdef __cplusplus
+extern "C" {
+#endif
+
+#define GIL_VERSION "0.1.0"
+
+/* 1. Rules that no code can check
+ *
+ * Each call judges every number and every byte that it is lent, and refuses what is wrong.
+ * These things it can't see, so they are yours:
+ *
+ *   - The buffers of one call don't overlap.
+ *   - No pointer is null, also where its length is 0.
+ *   - Each buffer has at least the length that is passed with it.
+ *   - One call at a time on a buffer. Nothing else reads or changes it until the call returns.
+ *     Calls on different buffers may run at the same time.
+ *   - Table, map and log start as zero bytes: that is the empty table, the empty map, the empty log.
+ *     After that each call is lent what the last call left. Never go back to an older copy.
+ *   - The image has one length as long as its log is in use. Every note is told that length.
+ *   - A piece is noted with the number of the lock it was written under, and inside its range.
+ *   - Pieces of equal number agree wherever they overlap: a holder flushes each byte once under one lock.
+ *   - A table that starts again numbers its grants from 1, and their pieces then lose against the entries
+ *     of older grants. So make the table as durable as the logs. If it has to start again, start every
+ *     log again first (part 2).
+ *
+ * What no call ever does: it allocates nothing, blocks on nothing, reads and writes no file, keeps no
+ * pointer and no state between calls, and touches no byte outside the lent buffers. It always returns.
+ * It needs memcpy and memset, and less than 64 KB of stack.
+ *
+ * A refused call changes no byte of any buffer.
+ */
+
+/* 2. Cuts: what must be durable, and in which order
+ *
+ * A cut ends the daemon at any place: a kill, a crash, a loss of power. Log and image survive it, the map
+ * is lost. With the rules below, what a cut leaves is always enough to go on from.
+ *
+ * A note. gil_note changes two places of the log: the new entry's 20 bytes at gil_entry_place(n), where n
+ * is the count before the call, and the count, which is the first 4 bytes. Carry them out like this:
+ *   1. Lend gil_note a copy of the log in memory, never the stored log: it can't wait between its stores.
+ *   2. Put down the entry's 20 bytes. Wait until they are durable (fsync, msync).
+ *   3. Put down the count's 4 bytes as one store. Wait until they are durable.
+ *   4. Only now is the piece noted: tell its client so, or write it. No byte of it goes into the image before.
+ * A cut before step 3 leaves the old log, since bytes after the last entry may be anything. A cut after it
+ * leaves the new one. With the count first, a cut could leave an entry made of whatever stood there.
+ *
+ * A write. A cut leaves any bytes at the places that this write would store, and changes none elsewhere.
+ * So answer the client only once the image's bytes are durable. Until then the write counts as cut: the
+ * client keeps the piece, and sends its write again after the cut until one ran to its end.
+ *
+ * After a cut, and at every start: read the log as it is stored, and call gil_restart on it. No note and
+ * no write before a restart has answered 0. If the storage fails at step 2 or 3, go on as after a cut.
+ *
+ * An empty log. A log takes 2,048 notes. Start it again only when no older piece can come any more: every
+ * write lock of the stripe is released, and every noted piece is written. Then put down 0 for the count as
+ * one store, wait until it is durable, and restart. Keep the table: its numbers go on rising.
+ *
+ * What this gives (proved, with cuts anywhere): once each noted piece had a write accepted, and the last
+ * accepted write of every piece ran to its end, each byte under a noted piece is that of the noted piece
+ * with the greatest number there, and every other byte is as it began.
+ */
+
+/* 3. Sizes, limits and codes
+ *
+ * The buffers are XDR (RFC 4506): big-endian, 4 or 8 bytes a number, an array as its 4-byte count and
+ * then its elements.
+ */
+#define GIL_TABLE_BYTES 10312  /* handles issued, 16 last numbers, array of records; zeros after it */
+#define GIL_EVENTS_BYTES 11268 /* array of events; bytes after it stay as they are */
+#define GIL_MAP_BYTES 20484    /* array of runs; zeros after it */
+#define GIL_LOG_BYTES 40964    /* array of entries; bytes after it may be anything */
+
+#define GIL_BYTES_PER_RECORD 40 /* handle, client, stripe, mode, state, number; first, last: 8 bytes each */
+#define GIL_BYTES_PER_EVENT 44  /* kind, and then as a record */
+#define GIL_BYTES_PER_RUN 20    /* first, last: 8 bytes each; number. An entry of the log has the same shape. */
+
+#define GIL_MAX_CLIENTS 64   /* clients are 0 to 63 */
+#define GIL_MAX_STRIPES 16   /* stripes are 0 to 15 */
+#define GIL_MAX_RECORDS 256  /* held locks and waiting requests of a table */
+#define GIL_MAX_EVENTS 256   /* events of a call */
+#define GIL_MAX_RUNS 1024    /* runs of a map */
+#define GIL_MAX_ENTRIES 2048 /* entries of a log */
+
+#define GIL_HIGHEST UINT64_C(4294967295)      /* the highest handle, and the highest number */
+#define GIL_EOF UINT64_C(9223372036854775807) /* the last byte that a range can have */
+
+/* Modes. */
+#define GIL_MODE_PR 1  /* read; other PR locks may share its bytes */
+#define GIL_MODE_NBW 2 /* write; once it is canceling, NBW and BW may be granted over it */
+#define GIL_MODE_BW 3  /* write; nothing is granted over it; once canceling, it may be downgraded to NBW */
+#define GIL_MODE_PW 4  /* read and write; nothing is granted over it; once canceling, it may be downgraded */
+
+/* States. A record in one of the last three is held. */
+#define GIL_STATE_WAITING 0   /* a request that is not granted yet */
+#define GIL_STATE_GRANTED 1   /* granted, and no revocation is sent */
+#define GIL_STATE_ASKED 2     /* its revocation is sent, and not acknowledged yet */
+#define GIL_STATE_CANCELING 3 /* acknowledged, or granted so: its holder flushes and releases it */
+
+/* Kinds of event. */
+#define GIL_EVENT_GRANT 1
+#define GIL_EVENT_REVOCATION 2
+
+/* 4. Refusals
+ *
+ * A call judges its refusals in the order that its comment lists. The first that holds is answered.
+ */
+#define GIL_ACCEPTED 0
+#define GIL_REFUSED_EVENT_BUFFER 1  /* event buffer under 11,268 bytes */
+#define GIL_REFUSED_TABLE 2         /* table of another length, or not sound */
+#define GIL_REFUSED_CLIENT 3        /* client above 63 */
+#define GIL_REFUSED_STRIPE 4        /* stripe above 15 */
+#define GIL_REFUSED_MODE 5          /* mode not 1 to 4 */
+#define GIL_REFUSED_RANGE 6         /* first above last, or last above EOF */
+#define GIL_REFUSED_HANDLES 7       /* 4,294,967,295 handles issued */
+#define GIL_REFUSED_RECORDS 8       /* 256 records in use */
+#define GIL_REFUSED_NO_RECORD 9     /* no record with this handle */
+#define GIL_REFUSED_OTHER_CLIENT 10 /* record of another client */
+#define GIL_REFUSED_STATE 11        /* acknowledge not in state 2; downgrade unless canceling BW or PW */
+#define GIL_REFUSED_MAP 12          /* map of another length, or not sound */
+#define GIL_REFUSED_LOG 13          /* log of another length, or not sound */
+#define GIL_REFUSED_PIECE 14        /* piece of length 0, past the image or past EOF */
+#define GIL_REFUSED_NUMBER 15       /* number 0 or above 4,294,967,295 */
+#define GIL_REFUSED_RUNS 16         /* the resulting map needs over 1,024 runs */
+#define GIL_REFUSED_ENTRIES 17      /* log holds 2,048 entries */
+#define GIL_REFUSED_SMALLER 18      /* some byte of the piece has a smaller number in the map */
+
+/* Says what happened, and what to do about it. The text is constant and never null. */
+static inline const char *gil_refusal_text(uint64_t refusal)
+{
+    switch (refusal) {
+    case GIL_ACCEPTED:
+        return "Accepted.";
+    case GIL_REFUSED_EVENT_BUFFER:
+        return "The event buffer is too short: lend 11,268 bytes (GIL_EVENTS_BYTES).";
+    case GIL_REFUSED_TABLE:
+        return "The table has another length, or is not sound: lend the 10,312 bytes that the last call left; "
+               "all zeros is the empty table.";
+    case GIL_REFUSED_CLIENT:
+        return "The client is above 63: number the clients from 0 to 63.";
+    case GIL_REFUSED_STRIPE:
+        return "The stripe is above 15: number the stripes from 0 to 15.";
+    case GIL_REFUSED_MODE:
+        return "The mode is unknown: ask for 1 PR, 2 NBW, 3 BW or 4 PW.";
+    case GIL_REFUSED_RANGE:
+        return "The range is not valid: ask for a first byte that is at most the last, and a last byte of at most "
+               "GIL_EOF.";
+    case GIL_REFUSED_HANDLES:
+        return "All 4,294,967,295 handles are issued: let every client flush and release, then start every log "
+               "again, and then the table.";
+    case GIL_REFUSED_RECORDS:
+        return "The table is full with 256 records: request again after a release.";
+    case GIL_REFUSED_NO_RECORD:
+        return "No record has this handle: it was released before, or never answered; forget it.";
+    case GIL_REFUSED_OTHER_CLIENT:
+        return "The handle is another client's: name it with the client that requested it.";
+    case GIL_REFUSED_STATE:
+        return "The record is not in the state for this: acknowledge once, after a revocation; downgrade only a "
+               "canceling BW or PW.";
+    case GIL_REFUSED_MAP:
+        return "The map has another length, or is not sound: lend 20,484 bytes, and fill them from the log by "
+               "gil_restart.";
+    case GIL_REFUSED_LOG:
+        return "The log has another length, or is not sound: lend its 40,964 bytes as stored; if those are damaged, "
+               "stop serving this stripe and bring back the log.";
+    case GIL_REFUSED_PIECE:
+        return "The piece is empty, or ends past the image or past EOF: send at least one byte, all inside the image.";
+    case GIL_REFUSED_NUMBER:
+        return "The number is 0 or above 4,294,967,295: send the number that the lock's grant carried.";
+    case GIL_REFUSED_RUNS:
+        return "The map would need over 1,024 runs: once the stripe's write locks are released and every noted piece "
+               "is written, start the log again.";
+    case GIL_REFUSED_ENTRIES:
+        return "The log is full with 2,048 entries: once the stripe's write locks are released and every noted piece "
+               "is written, start the log again.";
+    case GIL_REFUSED_SMALLER:
+        return "A byte of the piece has a smaller number in the map: note the piece first, then write it again.";
+    default:
+        return "This is not a refusal number of this library.";
+    }
+}
+
+/* A compiler that knows these attributes warns of a null pointer, and of an answer that nobody looks at. */
+#if defined(__GNUC__)
+#define GIL_CHECKED __attribute__((nonnull, warn_unused_result))
+#else
+#define GIL_CHECKED
+#endif
+
+/* Reads a number of 4 or 8 bytes as XDR has it. */
+static inline uint32_t gil_u32_at(const uint8_t *bytes)
+{
+    return (uint32_t)bytes[0] << 24 | (uint32_t)bytes[1] << 16 | (uint32_t)bytes[2] << 8 | (uint32_t)bytes[3];
+}
+static inline uint64_t gil_u64_at(const uint8_t *bytes)
+{
+    return (uint64_t)gil_u32_at(bytes) << 32 | gil_u32_at(bytes + 4);
+}
+
+/* How many elements an array has: events of an event buffer, runs of a map, entries of a log. */
+static inline uint32_t gil_count(const uint8_t *array)
+{
+    return gil_u32_at(array);
+}
+
+/* 5. The lock table
+ *
+ * Four messages of the clients: request, acknowledge, downgrade, release. A served message changes the
+ * table and settles it: every waiting request that nothing stands against any more is granted in this very
+ * call, and every lock that a waiting request then wants is asked back. What follows for the clients stands
+ * in the event buffer: first grants in rising handle, then revocations in rising handle. Send each event to
+ * its client, in this order.
+ */
+
+/* What a message answers. If refusal is not 0, the other two are 0. */
+typedef struct {
+    uint64_t refusal; /* 0, or a GIL_REFUSED_ number */
+    uint64_t handle;  /* the handle that the call made (request) or named (the others) */
+    uint64_t events;  /* how many events stand in the event buffer */
+} gil_answer;
+
+/* What a client is told.
+ *
+ * A grant: the client holds the lock from now on, over first to last, which may be more than it asked for.
+ * If its state is GIL_STATE_CANCELING, others wait for it already: no revocation and no acknowledge follow,
+ * the client does the one operation that it asked for, flushes and releases.
+ *
+ * A revocation: others wait for the lock. The client acknowledges it and starts nothing more under it. Once
+ * its operations are done it may downgrade a BW or PW. It flushes what it cached, and then releases the lock.
+ *
+ * The number is what the pieces written under this lock are noted and written with. PR locks have 0.
+ */
+typedef struct {
+    uint32_t kind; /* GIL_EVENT_GRANT or GIL_EVENT_REVOCATION */
+    uint32_t handle;
+    uint32_t client;
+    uint32_t stripe;
+    uint32_t mode;  /* GIL_MODE_.. */
+    uint32_t state; /* GIL_STATE_.. */
+    uint32_t number;
+    uint64_t first;
+    uint64_t last;
+} gil_event;
+
+/* Reads event i of an event buffer. i is below the answer's events. */
+static inline gil_event gil_event_at(const uint8_t *events, size_t i)
+{
+    const uint8_t *p = events + 4 + GIL_BYTES_PER_EVENT * i;
+    gil_event e;
+    e.kind = gil_u32_at(p);
+    e.handle = gil_u32_at(p + 4);
+    e.client = gil_u32_at(p + 8);
+    e.stripe = gil_u32_at(p + 12);
+    e.mode = gil_u32_at(p + 16);
+    e.state = gil_u32_at(p + 20);
+    e.number = gil_u32_at(p + 24);
+    e.first = gil_u64_at(p + 28);
+    e.last = gil_u64_at(p + 36);
+    return e;
+}
+
+/* Asks for a lock.
+ *
+ * Takes: the table; the event buffer, whose content does not matter; who asks, for which stripe, in which
+ *   mode, for which bytes. Ranges include both ends.
+ * Answers: the new handle. The lock itself comes as a grant event with this handle, in this call or in a
+ *   later one. Until then the request waits, and gil_release withdraws it.
+ * Never: grants over a lock or an earlier waiting request that conflicts, a client's own ones included;
+ *   gives a number twice in a stripe, or a handle twice in a table.
+ * Refusals, in this order: EVENT_BUFFER, TABLE, CLIENT, STRIPE, MODE, RANGE, HANDLES, RECORDS.
+ */
+GIL_CHECKED gil_answer gil_request(uint8_t *table, size_t table_len, uint8_t *events, size_t events_len,
+                                   uint64_t client, uint64_t stripe, uint64_t mode, uint64_t first, uint64_t last);
+
+/* Replies to a revocation: the lock goes from asked to canceling.
+ *
+ * Takes: the table, the event buffer, the client, and the handle of its lock.
+ * Answers: the same handle. If it is an NBW lock, NBW and BW requests that it alone stopped are granted.
+ * Never: ends the lock. Its holder flushes, and calls gil_release.
+ * Refusals, in this order: EVENT_BUFFER, TABLE, CLIENT, NO_RECORD, OTHER_CLIENT, STATE.
+ */
+GIL_CHECKED gil_answer gil_acknowledge(uint8_t *table, size_t table_len, uint8_t *events, size_t events_len,
+                                       uint64_t client, uint64_t handle);
+
+/* Makes a canceling BW or PW lock a canceling NBW lock, so that NBW and BW may be granted over it.
+ *
+ * Takes: the table, the event buffer, the client, and the handle of its lock.
+ * Answers: the same handle.
+ * Never: changes the lock's range, state or number. A second downgrade is refused with STATE.
+ * Refusals, in this order: EVENT_BUFFER, TABLE, CLIENT, NO_RECORD, OTHER_CLIENT, STATE.
+ */
+GIL_CHECKED gil_answer gil_downgrade(uint8_t *table, size_t table_len, uint8_t *events, size_t events_len,
+                                     uint64_t client, uint64_t handle);
+
+/* Gives a lock back in any state, or withdraws a waiting request.
+ *
+ * Takes: the table, the event buffer, the client, and the handle.
+ * Answers: the same handle, which no record has from now on. Its record's room is used again.
+ * Never: waits for the lock's pieces. Release only once each of them is written.
+ * Refusals, in this order: EVENT_BUFFER, TABLE, CLIENT, NO_RECORD, OTHER_CLIENT.
+ */
+GIL_CHECKED gil_answer gil_release(uint8_t *table, size_t table_len, uint8_t *events, size_t events_len,
+                                   uint64_t client, uint64_t handle);
+
+/* 6. The stripe
+ *
+ * A client flushes a piece: bytes from a first byte on, with the number of the lock they were written under.
+ * First the piece is noted, then it is written. Pieces may come in any order, and again.
+ * The map has the greatest noted number of each byte. It lives in memory alone, and comes from the log.
+ */
+
+/* Where entry i of a log starts, counted in bytes from the log's start. Entries count from 0. */
+static inline size_t gil_entry_place(size_t i)
+{
+    return 4 + GIL_BYTES_PER_RUN * i;
+}
+
+/* Notes a piece: appends its entry to the log, and raises the number of its bytes in the map.
+ *
+ * Takes: map and log of the stripe; the piece's first byte, its length and its number; the image's length.
+ * Answers: 0, or the refusal. After 0 carry entry and count out, in the order of part 2 above.
+ * Never: changes an earlier entry, or a byte of the log other than the new entry's 20 and the count's 4;
+ *   lowers a byte's number. A piece may be noted again, which takes one more entry.
+ * Refusals, in this order: MAP, LOG, PIECE, NUMBER, RUNS, ENTRIES.
+ */
+GIL_CHECKED uint64_t gil_note(uint8_t *map, size_t map_len, uint8_t *log, size_t log_len,
+                              uint64_t first, uint64_t length, uint64_t number, uint64_t image_length);
+
+/* Writes a noted piece: stores its bytes in the image exactly where the map has the piece's number.
+ *
+ * Takes: the map; the whole image; the piece's first byte, its bytes and its number.
+ * Answers: 0, or the refusal. 0 also where nothing was stored because greater numbers are noted everywhere.
+ * Never: changes the map, a byte of the image outside the piece, or a byte where the map has another number.
+ *   The same piece may be written again: a resend after a cut is accepted.
+ * Refusals, in this order: MAP, PIECE, NUMBER, SMALLER.
+ */
+GIL_CHECKED uint64_t gil_write(const uint8_t *map, size_t map_len, uint8_t *image, size_t image_len,
+                               uint64_t first, const uint8_t *piece, size_t piece_len, uint64_t number);
+
+/* Fills the map from the log. After a cut, and at every start, this comes before any note or write.
+ *
+ * Takes: a map buffer, whose content does not matter; the log.
+ * Answers: 0, or the refusal. A log made by notes alone, with cuts, is never refused.
+ * Never: changes the log.
+ * Refusals, in this order: MAP (its length only), LOG, RUNS.
+ */
+GIL_CHECKED uint64_t gil_restart(uint8_t *map, size_t map_len, const uint8_t *log, size_t log_len);
+
+#ifdef __cplusplus
+}
+#endif
+
+#endif

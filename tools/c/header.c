@@ -1,0 +1,304 @@
+/* header.c: the header's constants beside document 01's numbers and beside what the library does.
+ *
+ * Each call is given an input that all of its refusals hold for, as far as they can hold together. It is then mended
+ * step by step: so each refusal is reached, and each stands before the next. The order goes to standard output, a line
+ * for each call, as the header lists it.
+ */
+#define _POSIX_C_SOURCE 200809L
+#include <gilboreth.h>
+#include <pthread.h>
+#include <stdio.h>
+#include <stdlib.h>
+#include <string.h>
+
+/* Document 01. */
+#define IS(name, value) _Static_assert((name) == (value), #name)
+IS(GIL_TABLE_BYTES, 10312);
+IS(GIL_EVENTS_BYTES, 11268);
+IS(GIL_MAP_BYTES, 20484);
+IS(GIL_LOG_BYTES, 40964);
+IS(GIL_BYTES_PER_RECORD, 40);
+IS(GIL_BYTES_PER_EVENT, 44);
+IS(GIL_BYTES_PER_RUN, 20);
+IS(GIL_MAX_CLIENTS, 63 + 1);
+IS(GIL_MAX_STRIPES, 15 + 1);
+IS(GIL_MAX_RECORDS, 256);
+IS(GIL_MAX_EVENTS, 256);
+IS(GIL_MAX_RUNS, 1024);
+IS(GIL_MAX_ENTRIES, 2048);
+IS(GIL_HIGHEST, 4294967295);
+IS(GIL_EOF, 9223372036854775807);
+IS(GIL_MODE_PR, 1);
+IS(GIL_MODE_NBW, 2);
+IS(GIL_MODE_BW, 3);
+IS(GIL_MODE_PW, 4);
+IS(GIL_STATE_WAITING, 0);
+IS(GIL_STATE_GRANTED, 1);
+IS(GIL_STATE_ASKED, 2);
+IS(GIL_STATE_CANCELING, 3);
+IS(GIL_EVENT_GRANT, 1);
+IS(GIL_EVENT_REVOCATION, 2);
+IS(GIL_ACCEPTED, 0);
+IS(GIL_REFUSED_EVENT_BUFFER, 1);
+IS(GIL_REFUSED_TABLE, 2);
+IS(GIL_REFUSED_CLIENT, 3);
+IS(GIL_REFUSED_STRIPE, 4);
+IS(GIL_REFUSED_MODE, 5);
+IS(GIL_REFUSED_RANGE, 6);
+IS(GIL_REFUSED_HANDLES, 7);
+IS(GIL_REFUSED_RECORDS, 8);
+IS(GIL_REFUSED_NO_RECORD, 9);
+IS(GIL_REFUSED_OTHER_CLIENT, 10);
+IS(GIL_REFUSED_STATE, 11);
+IS(GIL_REFUSED_MAP, 12);
+IS(GIL_REFUSED_LOG, 13);
+IS(GIL_REFUSED_PIECE, 14);
+IS(GIL_REFUSED_NUMBER, 15);
+IS(GIL_REFUSED_RUNS, 16);
+IS(GIL_REFUSED_ENTRIES, 17);
+IS(GIL_REFUSED_SMALLER, 18);
+IS(GIL_TABLE_BYTES, 4 + 16 * 4 + 4 + GIL_MAX_RECORDS * GIL_BYTES_PER_RECORD);
+IS(GIL_EVENTS_BYTES, 4 + GIL_MAX_EVENTS * GIL_BYTES_PER_EVENT);
+IS(GIL_MAP_BYTES, 4 + GIL_MAX_RUNS * GIL_BYTES_PER_RUN);
+IS(GIL_LOG_BYTES, 4 + GIL_MAX_ENTRIES * GIL_BYTES_PER_RUN);
+
+static uint8_t table[GIL_TABLE_BYTES], events[GIL_EVENTS_BYTES], map[GIL_MAP_BYTES], log_bytes[GIL_LOG_BYTES];
+static uint8_t image[4 * GIL_MAX_RUNS];
+
+static void check(int holds, const char *what, int line)
+{
+    if (!holds) {
+        fprintf(stderr, "header.c:%d: %s\n", line, what);
+        exit(1);
+    }
+}
+#define CHECK(what) check((what), #what, __LINE__)
+
+/* The next refusal of a call: the answer, and its name as the header's lists have it. */
+#define STEP(name, call)                        \
+    do {                                        \
+        CHECK((call) == GIL_REFUSED_##name);    \
+        printf(" %s", #name);                   \
+    } while (0)
+
+/* An accepted call is the last step. */
+#define LAST(call)             \
+    do {                       \
+        CHECK((call) == 0);    \
+        printf("\n");          \
+    } while (0)
+
+static void put_u32(uint8_t *bytes, uint64_t value)
+{
+    for (int i = 0; i < 4; i++)
+        bytes[i] = (uint8_t)(value >> (24 - 8 * i));
+}
+
+/* Record i of the table, counted from 0. */
+static uint8_t *record(size_t i)
+{
+    return table + 4 + 4 * GIL_MAX_STRIPES + 4 + GIL_BYTES_PER_RECORD * i;
+}
+
+static uint64_t ask(size_t table_len, size_t events_len, uint64_t client, uint64_t stripe, uint64_t mode,
+                    uint64_t first, uint64_t last)
+{
+    return gil_request(table, table_len, events, events_len, client, stripe, mode, first, last).refusal;
+}
+
+static void request(void)
+{
+    size_t t = sizeof table, e = sizeof events;
+    static uint8_t full[sizeof table];
+    memset(table, 0, t);
+    for (int i = 0; i < GIL_MAX_RECORDS; i++)
+        CHECK(ask(t, e, GIL_MAX_CLIENTS - 1, GIL_MAX_STRIPES - 1, GIL_MODE_PR, GIL_EOF, GIL_EOF) == 0);
+    memcpy(full, table, t);
+    put_u32(table, GIL_HIGHEST); /* handles issued */
+    printf("gil_request:");
+    STEP(EVENT_BUFFER, ask(t - 1, e - 1, GIL_MAX_CLIENTS, GIL_MAX_STRIPES, GIL_MODE_PW + 1, 5, 4));
+    STEP(TABLE, ask(t - 1, e, GIL_MAX_CLIENTS, GIL_MAX_STRIPES, GIL_MODE_PW + 1, 5, 4));
+    STEP(CLIENT, ask(t, e, GIL_MAX_CLIENTS, GIL_MAX_STRIPES, GIL_MODE_PW + 1, 5, 4));
+    STEP(STRIPE, ask(t, e, 0, GIL_MAX_STRIPES, GIL_MODE_PW + 1, 5, 4));
+    STEP(MODE, ask(t, e, 0, 0, GIL_MODE_PW + 1, 5, 4));
+    CHECK(ask(t, e, 0, 0, 0, 5, 4) == GIL_REFUSED_MODE);
+    STEP(RANGE, ask(t, e, 0, 0, GIL_MODE_PW, 5, 4));
+    CHECK(ask(t, e, 0, 0, GIL_MODE_PW, 5, GIL_EOF + 1) == GIL_REFUSED_RANGE);
+    STEP(HANDLES, ask(t, e, 0, 0, GIL_MODE_PW, 5, 5));
+    memcpy(table, full, t);
+    STEP(RECORDS, ask(t, e, 0, 0, GIL_MODE_PW, 5, 5));
+    CHECK(gil_release(table, t, events, e, GIL_MAX_CLIENTS - 1, 1).refusal == 0);
+    LAST(ask(t, e, 0, 0, GIL_MODE_PW, 5, 5));
+    CHECK(gil_count(events) == 1 && gil_event_at(events, 0).handle == GIL_MAX_RECORDS + 1);
+    memset(table, 0, t);
+    put_u32(table, GIL_HIGHEST - 1);
+    CHECK(ask(t, e, 0, 0, GIL_MODE_PR, 0, 0) == 0 && gil_event_at(events, 0).handle == GIL_HIGHEST);
+}
+
+typedef gil_answer naming(uint8_t *, size_t, uint8_t *, size_t, uint64_t, uint64_t);
+
+/* Client 0 holds handle 1 in this mode, asked, or canceling once acknowledged; client 1 waits with handle 2. */
+static void name_handle(const char *name, naming *call, uint64_t mode, int acknowledged)
+{
+    size_t t = sizeof table, e = sizeof events;
+    memset(table, 0, t);
+    CHECK(ask(t, e, 0, 0, mode, 0, 0) == 0);
+    CHECK(ask(t, e, 1, 0, GIL_MODE_PW, 0, 0) == 0);
+    gil_event revocation = gil_event_at(events, 0);
+    CHECK(gil_count(events) == 1 && revocation.kind == GIL_EVENT_REVOCATION && revocation.state == GIL_STATE_ASKED);
+    CHECK(revocation.handle == 1 && revocation.client == 0 && revocation.mode == mode);
+    printf("%s:", name);
+    STEP(EVENT_BUFFER, call(table, t - 1, events, e - 1, GIL_MAX_CLIENTS, 3).refusal);
+    STEP(TABLE, call(table, t - 1, events, e, GIL_MAX_CLIENTS, 3).refusal);
+    STEP(CLIENT, call(table, t, events, e, GIL_MAX_CLIENTS, 3).refusal);
+    STEP(NO_RECORD, call(table, t, events, e, 1, 3).refusal);
+    STEP(OTHER_CLIENT, call(table, t, events, e, 1, 1).refusal);
+    if (call != gil_release)
+        STEP(STATE, call(table, t, events, e, 1, 2).refusal); /* a waiting request */
+    if (acknowledged)
+        CHECK(gil_acknowledge(table, t, events, e, 0, 1).refusal == 0);
+    gil_answer answer = call(table, t, events, e, 0, 1);
+    LAST(answer.refusal);
+    CHECK(answer.handle == 1 && answer.events == (call == gil_release));
+    if (call != gil_release)
+        CHECK(call(table, t, events, e, 0, 1).refusal == GIL_REFUSED_STATE);
+}
+
+static uint64_t note(size_t map_len, size_t log_len, uint64_t first, uint64_t length, uint64_t number)
+{
+    return gil_note(map, map_len, log_bytes, log_len, first, length, number, sizeof image);
+}
+
+static void stripe(void)
+{
+    size_t m = sizeof map, l = sizeof log_bytes, n = sizeof image;
+    uint8_t one[1] = {1};
+    memset(map, 0, m);
+    memset(log_bytes, 0, l);
+    for (uint64_t i = 0; i < GIL_MAX_RUNS; i++)
+        CHECK(note(m, l, 2 * i, 1, 1) == 0);
+    for (int i = GIL_MAX_RUNS; i < GIL_MAX_ENTRIES; i++)
+        CHECK(note(m, l, 0, 1, GIL_HIGHEST) == 0);
+    CHECK(gil_count(map) == GIL_MAX_RUNS && gil_count(log_bytes) == GIL_MAX_ENTRIES);
+    printf("gil_note:");
+    STEP(MAP, note(m - 1, l - 1, 1, n, 0));
+    STEP(LOG, note(m, l - 1, 1, n, 0));
+    STEP(PIECE, note(m, l, 1, n, 0));
+    CHECK(note(m, l, 0, 0, 0) == GIL_REFUSED_PIECE);
+    STEP(NUMBER, note(m, l, 1, 1, 0));
+    CHECK(note(m, l, 1, 1, GIL_HIGHEST + 1) == GIL_REFUSED_NUMBER);
+    STEP(RUNS, note(m, l, 1, 1, 2));
+    STEP(ENTRIES, note(m, l, 2, 1, 1));
+    memset(log_bytes, 0, l);
+    LAST(note(m, l, 2, 1, 1));
+    CHECK(gil_count(log_bytes) == 1 && gil_u64_at(log_bytes + gil_entry_place(0)) == 2);
+    CHECK(gil_u32_at(log_bytes + gil_entry_place(1) - 4) == 1);
+    CHECK(gil_note(map, m, log_bytes, l, GIL_EOF, 2, 1, UINT64_MAX) == GIL_REFUSED_PIECE);
+    memset(map, 0, m);
+    CHECK(gil_note(map, m, log_bytes, l, GIL_EOF, 1, 1, UINT64_MAX) == 0);
+
+    printf("gil_write:");
+    STEP(MAP, gil_write(map, m - 1, image, n, n, one, 1, 0));
+    STEP(PIECE, gil_write(map, m, image, n, n, one, 1, 0));
+    STEP(NUMBER, gil_write(map, m, image, n, n - 1, one, 1, 0));
+    STEP(SMALLER, gil_write(map, m, image, n, n - 1, one, 1, GIL_HIGHEST));
+    CHECK(note(m, l, n - 1, 1, GIL_HIGHEST) == 0 && image[n - 1] == 0);
+    LAST(gil_write(map, m, image, n, n - 1, one, 1, GIL_HIGHEST));
+    CHECK(image[n - 1] == 1);
+
+    printf("gil_restart:");
+    memset(log_bytes, 0, l);
+    memset(map, 0xff, m); /* what the map buffer held does not matter */
+    for (int i = 0; i <= GIL_MAX_RUNS; i++) {
+        put_u32(log_bytes + gil_entry_place((size_t)i) + 4, (uint64_t)(2 * i));
+        put_u32(log_bytes + gil_entry_place((size_t)i) + 12, (uint64_t)(2 * i));
+        put_u32(log_bytes + gil_entry_place((size_t)i) + 16, 1);
+    }
+    put_u32(log_bytes, GIL_MAX_RUNS + 1);
+    STEP(MAP, gil_restart(map, m - 1, log_bytes, l - 1));
+    STEP(LOG, gil_restart(map, m, log_bytes, l - 1));
+    STEP(RUNS, gil_restart(map, m, log_bytes, l));
+    put_u32(log_bytes, GIL_MAX_RUNS);
+    LAST(gil_restart(map, m, log_bytes, l));
+    CHECK(gil_count(map) == GIL_MAX_RUNS);
+}
+
+/* Every refusal has a sentence of its own; no other number has one. */
+static void texts(void)
+{
+    const char *none = gil_refusal_text(GIL_REFUSED_SMALLER + 1);
+    CHECK(gil_refusal_text(UINT64_MAX) == none);
+    for (uint64_t i = 0; i <= GIL_REFUSED_SMALLER; i++) {
+        const char *text = gil_refusal_text(i);
+        CHECK(text != none && text[0] != '\0' && text[strlen(text) - 1] == '.');
+        for (uint64_t j = 0; j < i; j++)
+            CHECK(strcmp(text, gil_refusal_text(j)) != 0);
+    }
+}
+
+/* Modes and states as the library knows them: P2 of document 01, and then a PW and a BW request. */
+static void codes(void)
+{
+    size_t t = sizeof table, e = sizeof events;
+    memset(table, 0, t);
+    CHECK(ask(t, e, 7, 5, GIL_MODE_NBW, 3, 9) == 0);
+    gil_event grant = gil_event_at(events, 0);
+    CHECK(grant.kind == GIL_EVENT_GRANT && grant.handle == 1 && grant.client == 7 && grant.stripe == 5);
+    CHECK(grant.mode == GIL_MODE_NBW && grant.state == GIL_STATE_GRANTED && grant.number == 1);
+    CHECK(grant.first == 3 && grant.last == GIL_EOF);
+    for (uint64_t client = 1; client <= 3; client++)
+        CHECK(ask(t, e, client, 5, GIL_MODE_NBW, 3, 9) == 0);
+    CHECK(gil_count(events) == 0);
+    CHECK(gil_acknowledge(table, t, events, e, 7, 1).events == 3);
+    gil_event second = gil_event_at(events, 0), fourth = gil_event_at(events, 2);
+    CHECK(second.handle == 2 && second.client == 1 && second.state == GIL_STATE_CANCELING);
+    CHECK(second.number == 2 && second.first == 3 && second.last == 9);
+    CHECK(fourth.handle == 4 && fourth.state == GIL_STATE_GRANTED && fourth.number == 4 && fourth.last == GIL_EOF);
+    /* Once all are canceling, a PW request goes on waiting, and a BW request is granted. */
+    CHECK(ask(t, e, 0, 5, GIL_MODE_PW, 3, 9) == 0);
+    CHECK(gil_acknowledge(table, t, events, e, 3, 4).events == 0);
+    CHECK(gil_u32_at(record(4) + 16) == GIL_STATE_WAITING);
+    CHECK(gil_release(table, t, events, e, 0, 5).refusal == 0);
+    CHECK(ask(t, e, 0, 5, GIL_MODE_BW, 3, 9) == 0 && gil_count(events) == 1);
+}
+
+/* The most events of a call: a table that nobody settled, of 255 PR requests with no obstacle, and one more. */
+static void most_events(void)
+{
+    size_t t = sizeof table, e = sizeof events;
+    memset(table, 0, t);
+    put_u32(table, GIL_MAX_RECORDS - 1);
+    put_u32(record(0) - 4, GIL_MAX_RECORDS - 1);
+    for (uint64_t i = 0; i + 1 < GIL_MAX_RECORDS; i++) {
+        put_u32(record(i), i + 1);
+        put_u32(record(i) + 12, GIL_MODE_PR);
+        put_u32(record(i) + 16, GIL_STATE_WAITING);
+    }
+    CHECK(gil_request(table, t, events, e, 0, 0, GIL_MODE_PR, 0, 0).events == GIL_MAX_EVENTS);
+    gil_event last = gil_event_at(events, GIL_MAX_EVENTS - 1);
+    CHECK(last.handle == GIL_MAX_RECORDS && last.number == 0);
+}
+
+static void *everything(void *nothing)
+{
+    request();
+    name_handle("gil_acknowledge", gil_acknowledge, GIL_MODE_PR, 0);
+    name_handle("gil_downgrade", gil_downgrade, GIL_MODE_BW, 1);
+    name_handle("gil_downgrade", gil_downgrade, GIL_MODE_PW, 1);
+    name_handle("gil_release", gil_release, GIL_MODE_PR, 0);
+    stripe();
+    texts();
+    codes();
+    most_events();
+    return nothing;
+}
+
+/* All of it on a stack of 64 KB, with which the header says that a call can do. */
+int main(void)
+{
+    pthread_attr_t small;
+    pthread_t thread;
+    CHECK(pthread_attr_init(&small) == 0 && pthread_attr_setstacksize(&small, 64 * 1024) == 0);
+    CHECK(pthread_create(&thread, &small, everything, NULL) == 0 && pthread_join(thread, NULL) == 0);
+    return 0;
+}
