@@ -1,5 +1,6 @@
 # Gilboreth. `make test` proves and runs everything; it is what .ci/run calls.
 .PHONY: test run bench example install clean
+archive = target/staticlib/libgilboreth.a
 
 test:
 	@tools/test
@@ -13,8 +14,11 @@ bench:
 example:
 	@tools/missing example 'the C header and the example daemon'
 
-install:
-	@tools/missing install 'the C header and the packaged library'
+install: $(archive)
+	@PREFIX='$(PREFIX)' DESTDIR='$(DESTDIR)' tools/install
+
+$(archive): crates.txt $(shell find crates -type f)
+	@rt staticlib gilboreth >&2
 
 clean:
 	rm -rf target host/target
