@@ -11,8 +11,8 @@ run:
 bench:
 	@tools/bench
 
-example:
-	@tools/missing example 'the C header and the example daemon'
+example: $(archive)
+	@tools/example
 
 install: $(archive)
 	@PREFIX='$(PREFIX)' DESTDIR='$(DESTDIR)' tools/install

@@ -1,0 +1,224 @@
+"""Kills the example daemon with SIGKILL at random places, and checks what it leaves.
+
+    kills.py [--seed N] [--kills N] [--seconds N] [--only-the-end] DAEMON..      (DAEMON.. are the words that start the daemon)
+
+A run begins with an empty log and an image of its own. Clients note, write and flush pieces in any order and again; the
+daemon is killed, looked at, and started again. This file keeps its own account of the stripe, byte by byte, from
+document 01. After each kill
+
+  - the log holds the entries of the noted pieces in note order, at most with that of the note that was cut;
+  - the image is as the account has it, but for bytes that the write that was cut would store.
+
+At the end of a run, after all kills, each piece that was noted, or whose write was cut, is written until that is answered.
+Then each byte under a noted piece must be that of the noted piece with the greatest number there, and every other byte as
+it began. --only-the-end leaves out the checks before.
+
+Runs are played until there were so many kills, or so many seconds are over. What is wrong ends it with status 10.
+"""
+import argparse
+import os
+import random
+import signal
+import struct
+import subprocess
+import sys
+import tempfile
+import time
+from collections import Counter
+
+LENGTH = 200_001  # of the image: many pages, and one that is not full
+TURNS = 14  # starts of the daemon in a run; in all but the first it is killed
+LINES = 60  # commands that wait for a daemon that is going to be killed
+LETTERS = bytes(range(33, 123)) * (LENGTH // 90 + 2)
+WRONG = 10
+
+
+class Wrong(Exception):
+    pass
+
+
+class Piece:
+    def __init__(self, first, length, number):
+        self.first, self.end, self.number = first, first + length, number
+        # Numbers stay below 90. So pieces of equal number agree wherever they overlap, and others differ in every byte.
+        self.bytes = LETTERS[number + first : number + self.end]
+        self.entry = struct.pack(">QQI", first, self.end - 1, number)
+        self.lines = {
+            "note": b"note %d %d %d\n" % (first, length, number),
+            "write": b"write %d %d %s\n" % (first, number, self.bytes),
+            "flush": b"flush %d %d %s\n" % (first, number, self.bytes),
+            "restart": b"restart\n",
+        }
+
+    def __str__(self):
+        return f"[{self.first},{self.end - 1}] number {self.number}"
+
+
+class Stripe:
+    """What document 01 says of the stripe after the calls so far."""
+
+    def __init__(self, began):
+        self.began = began
+        self.image = bytearray(began)
+        self.numbers = bytearray(LENGTH)  # the map: the number of each byte
+        self.noted = []
+
+    def note(self, piece):
+        greater = bytes(max(number, piece.number) for number in range(256))
+        self.numbers[piece.first : piece.end] = self.numbers[piece.first : piece.end].translate(greater)
+        self.noted.append(piece)
+
+    def refuses(self, piece):
+        """Whether a write of this piece is refused, with 18."""
+        return min(self.numbers[piece.first : piece.end]) < piece.number
+
+    def after(self, piece, data):
+        """The piece's stretch of the image after these bytes are stored where the map's number is the piece's."""
+        equal = self.numbers[piece.first : piece.end].translate(bytes(255 * (n == piece.number) for n in range(256)))
+        other = equal.translate(bytes(range(255, -1, -1)))
+        masks = ((data, equal), (self.image[piece.first : piece.end], other))
+        stored, kept = (int.from_bytes(a, "big") & int.from_bytes(b, "big") for a, b in masks)
+        return (stored | kept).to_bytes(len(equal), "big")
+
+    def write(self, piece, data):
+        self.image[piece.first : piece.end] = self.after(piece, data)
+
+    def owed(self):
+        """The image that is owed once every noted piece is written: greater numbers lie over smaller ones."""
+        image = bytearray(self.began)
+        for piece in sorted(self.noted, key=lambda piece: piece.number):
+            image[piece.first : piece.end] = piece.bytes
+        return image
+
+
+class Run:
+    def __init__(self, daemon, chance, directory, only_the_end, seen):
+        self.daemon, self.chance, self.directory = daemon, chance, directory
+        self.only_the_end, self.seen = only_the_end, seen
+        began = bytes(chance.randrange(128, 256) for _ in range(1000)) * (LENGTH // 1000 + 1)
+        self.stripe = Stripe(began[:LENGTH])
+        self.store("image", self.stripe.began)
+        self.unfinished = []  # pieces whose last accepted write was cut
+        self.seconds = 0  # how long the daemon takes for its commands
+
+    def path(self, name):
+        return os.path.join(self.directory, name)
+
+    def store(self, name, content):
+        with open(self.path(name), "wb") as file:
+            file.write(content)
+
+    def stored(self, name):
+        with open(self.path(name), "rb") as file:
+            return file.read()
+
+    def serve(self, commands, kill):
+        """Starts the daemon on these commands, kills it amid them, and answers how many got their answer."""
+        self.store("commands", b"".join(piece.lines[name] for name, piece in commands))
+        words = self.daemon + [self.directory, str(LENGTH)]
+        cut = dict(os.environ, GIL_CUT=str(self.chance.randrange(1, 2**31) if kill else 0))  # for powercut.c
+        with open(self.path("commands"), "rb") as lines:
+            process = subprocess.Popen(words, stdin=lines, stdout=subprocess.PIPE, env=cut)
+        first = b""
+        if self.chance.randrange(8) > 0:  # else the kill may come before the daemon is there
+            first = process.stdout.readline()
+        begun = time.perf_counter()
+        if kill:
+            time.sleep(0.6 * self.chance.random() * self.seconds)  # a sleep is longer than it is asked to be
+            process.send_signal(signal.SIGKILL)
+        answers = (first + process.communicate()[0]).splitlines()
+        if not kill:
+            self.seconds = time.perf_counter() - begun
+        if process.returncode not in ((0, -signal.SIGKILL) if kill else (0,)):
+            raise Wrong(f"the daemon ended with status {process.returncode} and {answers[-1:]}")
+        self.seen["kills"] += process.returncode != 0
+        answers = [int(answer.split()[0]) for answer in answers]
+        for (name, piece), answer in zip(commands, answers[1:]):
+            self.account(name, piece, answer)
+        answered = max(0, len(answers) - 1)
+        if process.returncode == 0 and answered < len(commands):
+            raise Wrong(f"the daemon left {len(commands) - answered} commands without an answer")
+        self.look(*commands[answered] if answered < len(commands) else (None, None))
+        return answered
+
+    def account(self, name, piece, answer):
+        """A command was answered: it must be the right answer."""
+        if name in ("note", "flush"):
+            self.stripe.note(piece)
+        right = 18 if name == "write" and self.stripe.refuses(piece) else 0
+        if answer != right:
+            raise Wrong(f"{name} of {piece} answered {answer}, not {right}")
+        if name in ("write", "flush") and right == 0:
+            self.stripe.write(piece, piece.bytes)
+            self.unfinished = [other for other in self.unfinished if other is not piece]
+
+    def look(self, name, piece):
+        """The daemon has ended, perhaps amid this command. The log says whether its note was cut."""
+        log, image, stripe = self.stored("log"), self.stored("image"), self.stripe
+        count = int.from_bytes(log[:4], "big")
+        writing = name == "write" and not stripe.refuses(piece)
+        if name in ("note", "flush") and count == len(stripe.noted) + 1:
+            stripe.note(piece)
+            writing = name == "flush"
+            self.seen["after the count of a note"] += 1
+        elif name in ("note", "flush") and log[4 + 20 * count : 24 + 20 * count] == piece.entry:
+            self.seen["after the entry of a note"] += 1
+        if writing:
+            self.unfinished.append(piece)
+            now, old = image[piece.first : piece.end], stripe.image[piece.first : piece.end]
+            self.seen["amid the bytes of a write"] += now not in (old, stripe.after(piece, piece.bytes))
+            stripe.write(piece, now)  # any bytes at the places that it would store
+        if not self.only_the_end:
+            entries = b"".join(piece.entry for piece in stripe.noted)
+            if count != len(stripe.noted) or log[4 : 4 + len(entries)] != entries:
+                raise Wrong(f"the log has not the {len(stripe.noted)} entries of the noted pieces")
+            compare("when the daemon had ended", image, stripe.image)
+        stripe.image[:] = image
+
+    def play(self):
+        chance, pieces, weights = self.chance, [], []
+        for turn in range(TURNS):
+            # New pieces, of which some are older than what is noted; and commands, which are mostly theirs.
+            for most in (9, 5_000, 150_000) * 4:
+                first = chance.randrange(LENGTH)
+                number = chance.randint(max(1, 6 * turn - 10), 6 * turn + 6)
+                pieces.append(Piece(first, chance.randint(1, min(most, LENGTH - first)), number))
+            weights = [1] * len(weights) + [10] * 12
+            names = chance.choices(("note", "write", "flush", "restart"), (4, 6, 6, 1), k=LINES)
+            self.serve(list(zip(names, chance.choices(pieces, weights, k=LINES))), kill=turn > 0)
+        rest = list(dict.fromkeys(self.stripe.noted + self.unfinished))
+        chance.shuffle(rest)
+        for kill in (True, True, False):
+            rest = rest[self.serve([("write", piece) for piece in rest], kill) :]
+        compare("at the end", self.stored("image"), self.stripe.owed())
+
+
+def compare(when, image, right):
+    if image != right:
+        place = next((i for i, (a, b) in enumerate(zip(image, right)) if a != b), min(len(image), len(right)))
+        raise Wrong(f"{when}, byte {place} of the image is {image[place:place+1]}, not {bytes(right[place:place+1])}")
+
+
+def main():
+    parser = argparse.ArgumentParser()
+    parser.add_argument("--seed", type=int, default=int.from_bytes(os.urandom(4), "big"))
+    parser.add_argument("--kills", type=int, default=300)
+    parser.add_argument("--seconds", type=float, default=60)
+    parser.add_argument("--only-the-end", action="store_true")
+    parser.add_argument("daemon", nargs="+")
+    options = parser.parse_args()
+    print(f"kills: seed {options.seed}", file=sys.stderr)
+    chance, seen, runs, begun = random.Random(options.seed), Counter(), 0, time.perf_counter()
+    try:
+        while seen["kills"] < options.kills and time.perf_counter() - begun < options.seconds:
+            with tempfile.TemporaryDirectory(prefix="gilboreth-") as directory:
+                Run(options.daemon, chance, directory, options.only_the_end, seen).play()
+            runs += 1
+    except Wrong as wrong:
+        print(f"kills: WRONG after {seen['kills']} kills (seed {options.seed}): {wrong}", file=sys.stderr)
+        sys.exit(WRONG)
+    places = ", ".join(f"{number} {what}" for what, number in seen.items() if what != "kills")
+    print(f"kills: {seen['kills']} in {runs} runs, {time.perf_counter() - begun:.0f} s: {places}; all images right", file=sys.stderr)
+
+
+main()

@@ -1,0 +1,93 @@
+/* powercut.c: linked around mmap and msync (--wrap), this makes every kill of a program a loss of power.
+ *
+ * A mapped file becomes a copy in memory. What is stored there reaches the file by msync, or by chance earlier: at some
+ * msync, sectors that were stored and not waited for reach the file, in no order. GIL_CUT is a seed; if it is not 0,
+ * the program is killed at some msync, right after such sectors.
+ *
+ * -DIMPATIENT ignores every other msync of the log: a program that does not wait between entry and count.
+ */
+#define _POSIX_C_SOURCE 200809L
+#include <gilboreth.h>
+#include <signal.h>
+#include <stdlib.h>
+#include <string.h>
+#include <sys/mman.h>
+#include <unistd.h>
+
+#define SECTOR 512
+
+void *__real_mmap(void *address, size_t length, int protection, int flags, int file, off_t offset);
+void *__wrap_mmap(void *address, size_t length, int protection, int flags, int file, off_t offset);
+int __wrap_msync(void *address, size_t length, int flags);
+
+static struct mapped {
+    uint8_t *memory, *stored; /* as the program sees the file, and as it is in the file */
+    size_t length;
+    int file;
+    unsigned calls;
+} files[2];
+static size_t count;
+
+static int chance(int of)
+{
+    return rand() % of == 0;
+}
+
+static void store(struct mapped *m, size_t first, size_t end)
+{
+    end = end < m->length ? end : m->length;
+    memcpy(m->stored + first, m->memory + first, end - first);
+    if (pwrite(m->file, m->memory + first, end - first, (off_t)first) != (ssize_t)(end - first))
+        abort();
+}
+
+static void store_some_sectors(int of)
+{
+    for (struct mapped *m = files; m < files + count; m++)
+        for (size_t first = 0; first < m->length; first += SECTOR) {
+            size_t left = m->length - first;
+            if (memcmp(m->memory + first, m->stored + first, left < SECTOR ? left : SECTOR) != 0 && chance(of))
+                store(m, first, first + SECTOR);
+        }
+}
+
+void *__wrap_mmap(void *address, size_t length, int protection, int flags, int file, off_t offset)
+{
+    struct mapped *m = &files[count++];
+    (void)flags;
+    m->memory = __real_mmap(address, length, protection, MAP_PRIVATE, file, offset);
+    m->stored = malloc(length);
+    m->length = length;
+    m->file = dup(file);
+    if (m->memory == MAP_FAILED || m->stored == NULL || m->file < 0)
+        abort();
+    memcpy(m->stored, m->memory, length);
+    return m->memory;
+}
+
+int __wrap_msync(void *address, size_t length, int flags)
+{
+    static int seeded, cuts;
+    if (!seeded++) {
+        const char *seed = getenv("GIL_CUT");
+        cuts = seed != NULL && strcmp(seed, "0") != 0;
+        srand(cuts ? (unsigned)strtoul(seed, NULL, 10) : 0);
+    }
+    (void)flags;
+    if (cuts && chance(60)) {
+        store_some_sectors(2);
+        raise(SIGKILL);
+    }
+    if (chance(4))
+        store_some_sectors(2);
+    for (struct mapped *m = files; m < files + count; m++)
+        if ((uint8_t *)address >= m->memory && (uint8_t *)address < m->memory + m->length) {
+            size_t first = (size_t)((uint8_t *)address - m->memory);
+#ifdef IMPATIENT
+            if (m->length == GIL_LOG_BYTES && m->calls++ % 2 == 0)
+                return 0;
+#endif
+            store(m, first, first + length);
+        }
+    return 0;
+}

@@ -1,0 +1,31 @@
+/* wrong.c: entries that are wrong on purpose, linked around the library's own (--wrap): kills.py has to find them. */
+#include <gilboreth.h>
+#include <string.h>
+
+#ifdef BY_ARRIVAL
+/* Takes a piece by arrival, not by number. Its answers are right. */
+uint64_t __real_gil_write(const uint8_t *map, size_t map_len, uint8_t *image, size_t image_len, uint64_t first,
+                          const uint8_t *piece, size_t piece_len, uint64_t number);
+uint64_t __wrap_gil_write(const uint8_t *map, size_t map_len, uint8_t *image, size_t image_len, uint64_t first,
+                          const uint8_t *piece, size_t piece_len, uint64_t number);
+uint64_t __wrap_gil_write(const uint8_t *map, size_t map_len, uint8_t *image, size_t image_len, uint64_t first,
+                          const uint8_t *piece, size_t piece_len, uint64_t number)
+{
+    uint64_t refusal = __real_gil_write(map, map_len, image, image_len, first, piece, piece_len, number);
+    if (refusal == GIL_ACCEPTED)
+        memcpy(image + first, piece, piece_len);
+    return refusal;
+}
+#endif
+
+#ifdef FORGETFUL
+/* Forgets what the log says: every byte has number 0 after a restart. */
+uint64_t __wrap_gil_restart(uint8_t *map, size_t map_len, const uint8_t *log, size_t log_len);
+uint64_t __wrap_gil_restart(uint8_t *map, size_t map_len, const uint8_t *log, size_t log_len)
+{
+    (void)log;
+    (void)log_len;
+    memset(map, 0, map_len);
+    return GIL_ACCEPTED;
+}
+#endif
