@@ -7,3 +7,9 @@ pub mod Spaced
 pub mod StripeRefusals
 pub mod Sessions
 pub mod Seam
+pub mod Encoding
+pub mod Fitting
+pub mod Outcomes
+pub mod Determined
+pub mod Reached
+pub mod Demand1

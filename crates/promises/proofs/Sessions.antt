@@ -38,14 +38,14 @@ module _ (m : Message) (t b : List ℕ) (s : soundTableBytes t ≡ true) (h : ev
   unfolding outcome
   outcome-is = rw (le-ltb (length b) (eventsSize width) h, s)
 
-bytes-sound : (t : List ℕ) → soundTableBytes t ≡ true → T (sound (tableOf width t))
+pub bytes-sound : (t : List ℕ) → soundTableBytes t ≡ true → T (sound (tableOf width t))
 unfolding soundTableBytes
 bytes-sound t e =
     let f = and-right (eqb (length t) (tableSize width)) (sound (tableOf width t) && zeros (drop (recordsEnd width t) t)) e in
     rw (and-left (sound (tableOf width t)) (zeros (drop (recordsEnd width t) t)) f) tt
 
 -- Bytes that hold a sound table are sound
-holds-sound : (n : ℕ) (X : Table) (u : List ℕ) → Holds n X u → T (sound X) → soundTableBytes u ≡ true
+pub holds-sound : (n : ℕ) (X : Table) (u : List ℕ) → Holds n X u → T (sound X) → soundTableBytes u ≡ true
 unfolding soundTableBytes
 holds-sound n X u H s =
     rw (eq-eqb (length u) (tableSize width) (H .shape .size), true-is (sound (tableOf width u)) (subst (λ (x : Table). T (sound x)) (sym (H .says)) s))

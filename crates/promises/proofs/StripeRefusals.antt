@@ -58,10 +58,10 @@ unfolding restartMap
 restart-refused m l h = ap (λ (t : Bool). cond t (mapBytes width (mapOf (runsOf width l))) m) (ne-eqb (restartAnswer m l) 0 h)
 
 -- Each number is reached: 12, 13, 14 and 15 by a note on an empty map and log
-abbrev map0 : List ℕ
+abbrev pub map0 : List ℕ
 map0 = replicate (mapSize width) 0
 
-abbrev log0 : List ℕ
+abbrev pub log0 : List ℕ
 log0 = replicate (logSize width) 0
 
 pub reaches-12 : noteAnswer [] [] 0 1 1 1 ≡ 12
@@ -90,7 +90,7 @@ reaches-16 =
     rw (map-back-sound (spaced 1 1024) s h, empty-log, map-back (spaced 1 1024) s h, e)
 
 -- 17 by a log of 2,048 entries, all alike
-abbrev one : Run
+abbrev pub one : Run
 one = run 0 0 1
 
 ones-valid : (n : ℕ) → allValid (replicate n one) ≡ true
@@ -101,34 +101,34 @@ ones-fit : (n : ℕ) → Fits (runLayout width) (map runFields (replicate n one)
 ones-fit zero = tt
 ones-fit (suc n) = ((omega arith, (omega arith, (omega arith, tt))), ones-fit n)
 
-module _ (n : ℕ) (h : n ≤ maxEntries) where
-  pub full : List ℕ
-  full = bytesOf width (logSize width) (replicate n one)
+unfoldable pub full : ℕ → List ℕ
+full n = bytesOf width (logSize width) (replicate n one)
 
+module _ (n : ℕ) (h : n ≤ maxEntries) where
   long : length (replicate n one) ≡ n
   long = length-replicate n one
 
-  full-back : runsOf width full ≡ replicate n one
+  full-back : runsOf width (full n) ≡ replicate n one
   unfolding full
   full-back = bytes-back (logSize width) (replicate n one) (ones-fit n) (let e = long in omega arith) (let e = long in omega arith)
 
-  full-sound : soundLogBytes full ≡ true
+  full-sound : soundLogBytes (full n) ≡ true
   unfolding full
   full-sound =
-      bytes-log full
+      bytes-log (full n)
       (record {
         long = full-long;
         sound = rw full-back (is-log (replicate n one) (record { few = let e = long in omega arith; good = ones-valid n }));
       })
     where
-      full-long : length full ≡ logSize width
+      full-long : length (full n) ≡ logSize width
       full-long = bytes-length (logSize width) (replicate n one) (ones-fit n) (let e = long in omega arith) (let e = long in omega arith)
 
-  full-refused : n ≡ maxEntries → noteAnswer map0 full 0 1 1 1 ≡ 17
+  full-refused : n ≡ maxEntries → noteAnswer map0 (full n) 0 1 1 1 ≡ 17
   unfolding noteAnswer mapOf draw end put join owner over
   full-refused e = rw (empty-map, full-sound, no-runs (mapSize width), full-back, long, le-leb maxEntries n (omega arith))
 
-pub reaches-17 : noteAnswer map0 (full maxEntries (omega arith)) 0 1 1 1 ≡ 17
+pub reaches-17 : noteAnswer map0 (full maxEntries) 0 1 1 1 ≡ 17
 reaches-17 = full-refused maxEntries (omega arith) refl
 
 -- 18 by a write that was not noted

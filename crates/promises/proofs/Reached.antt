@@ -1,0 +1,143 @@
+-- No refusal of a message is dead: for each of 1 to 11 a table in bytes and a message that get it. The thought: a sound table has bytes, and of these
+-- bytes the message's number is the first hit of its own list.
+use Prim.Native.Nat.{ℕ, zero, suc, _+_, _≤_}
+use native.Mathlib.Omega.{arith}
+use native.Mathlib.Numerals.{add-one}
+use mathlib.Core.Bool.{true}
+use mathlib.Core.List.{List, [], _∷_, _++_}
+use mathlib.Core.Path.{_≡_, refl, sym, ap, subst, _∙_}
+use lib.Dec.{T}
+use lib.ListN.{length, replicate, length-replicate, length-append}
+use borrow.Author.Tests.{le-leb, le-ltb}
+use Rattle.common.specs.Counters.{width, handle, number}
+use Rattle.common.specs.Refusals.{firstHit}
+use Rattle.table.specs.declared.Lock.{Lock}
+use Rattle.table.specs.Table.{Table, empty, stripeCount, maxRecords}
+use Rattle.table.specs.Sound.{sound, valid, room, agree}
+use Rattle.table.specs.Bytes.{tableOf, soundTableBytes}
+use Rattle.table.proofs.Facts.{Sound, sound→, →sound}
+use Rattle.locks.specs.declared.Message.{Message}
+use Rattle.locks.specs.declared.Message.the-variants.{Request, Acknowledge, Downgrade, Release}
+use Rattle.locks.specs.Refusals.{rules}
+use Rattle.locks.specs.Serve.{Outcome, asking, serve}
+use Rattle.locks.specs.Events.{eventsSize}
+use Rattle.locks.proofs.Served.{asked}
+use Rattle.locks.proofs.Sessions.{empty-sound}
+use Rattle.gilboreth.specs.Messages.{outcome}
+use Rattle.promises.proofs.Encoding.{tableBytes, table-held}
+use Rattle.promises.proofs.Fitting.{sound-fits}
+use Rattle.promises.proofs.Outcomes.{served-hit}
+use Rattle.promises.proofs.Sessions.{outcome-is, holds-sound}
+
+abbrev pub buffer : List ℕ
+buffer = replicate (eventsSize width) 0
+
+buffer-long : length buffer ≡ eventsSize width
+buffer-long = length-replicate {A = ℕ} (eventsSize width) 0
+
+-- the message's own list decides
+pub gets-own : (X : Table) (m : Message) → T (sound X) → outcome m (tableBytes X) buffer .refusal ≡ firstHit (rules X m)
+gets-own X m s =
+    let H = table-held X (sound-fits X s) in
+    ap (λ (o : Outcome). o .refusal) (outcome-is m (tableBytes X) buffer (holds-sound (length (X .locks)) X (tableBytes X) H s) (let e = buffer-long in omega arith))
+    ∙ ap (λ (Y : Table). serve Y m .refusal) (H .says)
+    ∙ served-hit X m
+
+pub reaches-1 : outcome (Request 0 0 1 0 0) [] [] .refusal ≡ 1
+unfolding outcome
+reaches-1 = refl
+
+no-table : (b : List ℕ) → eventsSize width ≤ length b → outcome (Request 0 0 1 0 0) [] b .refusal ≡ 2
+unfolding outcome soundTableBytes
+no-table b h = rw (le-ltb (length b) (eventsSize width) h)
+
+pub reaches-2 : outcome (Request 0 0 1 0 0) [] buffer .refusal ≡ 2
+reaches-2 = no-table buffer (let e = buffer-long in omega arith)
+
+-- 3 to 6, and 9, on the empty table
+module _ (m : Message) (n : ℕ) where
+  pub on-empty : firstHit (rules empty m) ≡ n → outcome m (tableBytes empty) buffer .refusal ≡ n
+  on-empty e = gets-own empty m empty-sound ∙ e
+
+pub reaches-3 : outcome (Request 64 0 1 0 0) (tableBytes empty) buffer .refusal ≡ 3
+unfolding rules
+reaches-3 = on-empty (Request 64 0 1 0 0) 3 refl
+
+pub reaches-4 : outcome (Request 0 16 1 0 0) (tableBytes empty) buffer .refusal ≡ 4
+unfolding rules
+reaches-4 = on-empty (Request 0 16 1 0 0) 4 refl
+
+pub reaches-5 : outcome (Request 0 0 5 0 0) (tableBytes empty) buffer .refusal ≡ 5
+unfolding rules
+reaches-5 = on-empty (Request 0 0 5 0 0) 5 refl
+
+pub reaches-6 : outcome (Request 0 0 1 5 4) (tableBytes empty) buffer .refusal ≡ 6
+unfolding rules
+reaches-6 = on-empty (Request 0 0 1 5 4) 6 refl
+
+pub reaches-9 : outcome (Release 0 1) (tableBytes empty) buffer .refusal ≡ 9
+unfolding rules
+reaches-9 = on-empty (Release 0 1) 9 refl
+
+-- 7 on a table that issued every handle
+abbrev pub spent : Table
+spent = record { issued = 4294967295; lasts = replicate stripeCount 0; locks = [] }
+
+spent-sound : T (sound spent)
+unfolding sound room
+spent-sound = tt
+
+pub reaches-7 : outcome (Request 0 0 1 0 0) (tableBytes spent) buffer .refusal ≡ 7
+unfolding rules
+reaches-7 = gets-own spent (Request 0 0 1 0 0) spent-sound
+
+-- 8 on a table of 256 requests, each added as a request is
+pub queue : ℕ → List Lock
+queue zero = []
+queue (suc n) = queue n ++ (asking (n + 1) 0 0 1 0 0 ∷ [])
+
+queue-long : (n : ℕ) → length (queue n) ≡ n
+unfolding queue
+queue-long zero = refl
+queue-long (suc n) = let e = queue-long n in omega (arith, length-append (queue n) (asking (n + 1) 0 0 1 0 0 ∷ []))
+
+queue-sound : (n : ℕ) → n ≤ maxRecords → Sound n (replicate stripeCount 0) (queue n)
+unfolding queue
+queue-sound zero h = sound→ empty empty-sound
+queue-sound (suc n) h =
+    subst (λ (k : ℕ). Sound k (replicate stripeCount 0) (queue n ++ (asking (n + 1) 0 0 1 0 0 ∷ []))) (add-one n)
+    (asked n (replicate stripeCount 0) (queue n) 0 0 1 0 0 (queue-sound n (omega arith)) (omega arith) (omega arith) (omega arith) (omega arith) (omega arith) (omega arith) (omega arith) (let e = queue-long n in omega arith))
+
+module _ (n : ℕ) where
+  pub queued : Table
+  queued = record { issued = n; lasts = replicate stripeCount 0; locks = queue n }
+
+  crowded : n ≡ maxRecords → outcome (Request 0 0 1 0 0) (tableBytes queued) buffer .refusal ≡ 8
+  unfolding rules queued
+  crowded e =
+      gets-own queued (Request 0 0 1 0 0) (→sound queued (queue-sound n (omega arith)))
+      ∙ rw (queue-long n, le-leb maxRecords n (omega arith), e)
+
+pub reaches-8 : outcome (Request 0 0 1 0 0) (tableBytes (queued maxRecords)) buffer .refusal ≡ 8
+reaches-8 = crowded maxRecords refl
+
+-- 10 and 11 on a table of one lock in state 1
+abbrev pub single : Table
+single =
+    record {
+      issued = 1;
+      lasts = replicate stripeCount 0;
+      locks = record { handle = handle 1; client = 0; stripe = 0; mode = 1; state = 1; number = number 0; first = 0; last = 0 } ∷ [];
+    }
+
+single-sound : T (sound single)
+unfolding sound room valid agree
+single-sound = tt
+
+pub reaches-10 : outcome (Release 1 1) (tableBytes single) buffer .refusal ≡ 10
+unfolding rules
+reaches-10 = gets-own single (Release 1 1) single-sound
+
+pub reaches-11 : outcome (Acknowledge 0 1) (tableBytes single) buffer .refusal ≡ 11
+unfolding rules
+reaches-11 = gets-own single (Acknowledge 0 1) single-sound

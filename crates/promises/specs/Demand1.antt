@@ -1,0 +1,160 @@
+-- DEMAND 1, for each public entry. "For every input there is an outcome, the contract allows only one, a refusal's answer is (number, 0, 0) or the
+-- number alone, from the list, the first hit in the stated order, and leaves every buffer as it was. For each number 1 to 18 an input that gets it."
+use Prim.Native.Nat.{ℕ, _^_}
+use mathlib.Core.Path.{_≡_}
+use mathlib.Core.Bool.{Bool, not}
+use mathlib.Core.Logic.{_⊎_}
+use mathlib.Core.List.{List, [], _∷_, _++_}
+use lib.Dec.{T, eqb, ltb}
+use lib.ListN.{length}
+use Rattle.common.specs.Counters.{width}
+use Rattle.common.specs.Refusals.{Rule}
+use Rattle.common.specs.Tests.{all, any, upFrom}
+use Rattle.xdr.specs.Be.{Bytes}
+use Rattle.table.specs.Bytes.{tableOf}
+use Rattle.locks.specs.declared.Message.{Message}
+use Rattle.locks.specs.declared.Message.the-variants.{Request, Acknowledge, Downgrade, Release}
+use Rattle.locks.specs.Refusals.{rules}
+use Rattle.runs.specs.Bytes.{runsOf, mapSize, soundMapBytes, soundLogBytes}
+use Rattle.stripe.specs.Refusals.{writeRules, restartRules}
+use Rattle.serve.specs.declared.Answer.{Answer}
+use Rattle.serve.specs.Serves.{Leaves}
+use Rattle.gilboreth.specs.Messages.{entryRules, outcome}
+use Rattle.gilboreth.specs.Note.{noteList, noteAnswer, Notes}
+use Rattle.gilboreth.specs.Write.{writeAnswer, Writes}
+use Rattle.gilboreth.specs.Restart.{restartAnswer, Restarts}
+
+-- "the first hit in the stated order": n is the number of a rule that the call breaks, and it keeps every rule before that one
+abbrev pub keeps : List Rule → Bool
+keeps = all (λ r. not (r .broken))
+
+pub record FirstHit (list : List Rule) (n : ℕ) : Type 0 where
+  pub before : List Rule
+  pub hit : Rule
+  pub after : List Rule
+  pub order : list ≡ before ++ (hit ∷ after)
+  pub kept : T (keeps before)
+  pub broken : T (hit .broken)
+  pub number : n ≡ hit .answer
+
+-- "Accepted is 0": the call keeps them all
+abbrev pub Judged : List Rule → ℕ → Type 0
+Judged list n = ((n ≡ 0) × T (keeps list)) ⊎ FirstHit list n
+
+-- An entry at one input. R is what a call answers and leaves, Meets the entry's contract, `number` the refusal number that it answers;
+-- `list` its rules in order and `numbers` their numbers; `refused n` the answer n with every buffer as it was
+pub record Promised {R : Type 0} (Meets : R → Type 0) (number : R → ℕ) (list : List Rule) (numbers : List ℕ) (refused : ℕ → R) : Type 0 where
+  -- "there is an outcome"
+  pub some : R
+  pub meets : Meets some
+  -- "the contract allows only one"
+  pub only : (x y : R) → Meets x → Meets y → x ≡ y
+  -- "from the list, the first hit in the stated order"
+  pub listed : (x : R) → Meets x → T (any (eqb (number x)) (0 ∷ numbers))
+  pub judged : (x : R) → Meets x → Judged list (number x)
+  -- "(number, 0, 0) or the number alone, .. and leaves every buffer as it was"
+  pub unchanged : (x : R) → Meets x → (number x ≡ 0 → ⊥) → x ≡ refused (number x)
+
+-- What each entry answers, and the buffers that it may change
+pub record Served : Type 0 where
+  pub answer : Answer
+  pub table : List ℕ
+  pub events : List ℕ
+
+pub record Noted : Type 0 where
+  pub answer : ℕ
+  pub map : List ℕ
+  pub log : List ℕ
+
+pub record Written : Type 0 where
+  pub answer : ℕ
+  pub image : List ℕ
+
+pub record Restarted : Type 0 where
+  pub answer : ℕ
+  pub map : List ℕ
+
+-- "request 1 to 8; the others 1, 2, 3, 9, 10, 11". A release has nothing that 11 could say
+abbrev pub numbersOf : Message → List ℕ
+numbersOf (Request c s m f l) = 1 ∷ 2 ∷ 3 ∷ 4 ∷ 5 ∷ 6 ∷ 7 ∷ 8 ∷ []
+numbersOf (Acknowledge c h) = 1 ∷ 2 ∷ 3 ∷ 9 ∷ 10 ∷ 11 ∷ []
+numbersOf (Downgrade c h) = 1 ∷ 2 ∷ 3 ∷ 9 ∷ 10 ∷ 11 ∷ []
+numbersOf (Release c h) = 1 ∷ 2 ∷ 3 ∷ 9 ∷ 10 ∷ []
+
+-- The four messages. A slice of bytes holds bytes: of the table that the call leaves this is said openly
+abbrev pub OfMessage : Message → List ℕ → List ℕ → Type 0
+OfMessage m table events =
+    Promised {R = Served}
+    (λ x. Leaves (outcome m table events) table events (x .answer) (x .table) (x .events) × Bytes (x .table))
+    (λ x. x .answer .refusal)
+    (entryRules table events ++ rules (tableOf width table) m) (numbersOf m)
+    (λ n. record { answer = record { refusal = n; handle = 0; events = 0 }; table = table; events = events })
+
+-- "note 12 to 17"
+abbrev pub OfNote : List ℕ → List ℕ → ℕ → ℕ → ℕ → ℕ → Type 0
+OfNote map log first len number image =
+    Promised {R = Noted}
+    (λ x. Notes map log first len number image (x .answer) (x .map) (x .log))
+    (λ x. x .answer)
+    (noteList map log first len number image) (12 ∷ 13 ∷ 14 ∷ 15 ∷ 16 ∷ 17 ∷ [])
+    (λ n. record { answer = n; map = map; log = log })
+
+-- "write 12, 14, 15, 18"
+abbrev pub OfWrite : List ℕ → ℕ → List ℕ → ℕ → List ℕ → Type 0
+OfWrite map first piece number image =
+    Promised {R = Written}
+    (λ x. Writes map first piece number image (x .answer) (x .image))
+    (λ x. x .answer)
+    (writeRules (soundMapBytes map) (runsOf width map) first (length piece) number (length image)) (12 ∷ 14 ∷ 15 ∷ 18 ∷ [])
+    (λ n. record { answer = n; image = image })
+
+-- "restart 12 (length only), 13, 16"
+abbrev pub OfRestart : List ℕ → List ℕ → Type 0
+OfRestart map log =
+    Promised {R = Restarted}
+    (λ x. Restarts map log (x .answer) (x .map))
+    (λ x. x .answer)
+    (restartRules (eqb (length map) (mapSize width)) (soundLogBytes log) (runsOf width log)) (12 ∷ 13 ∷ 16 ∷ [])
+    (λ n. record { answer = n; map = map })
+
+-- An input of an entry, and the number that it gets
+pub data Input : Type 0 where
+  message : Message → (table events : List ℕ) → Input
+  note : (map log : List ℕ) (first len number image : ℕ) → Input
+  write : (map : List ℕ) (first : ℕ) (piece : List ℕ) (number : ℕ) (image : List ℕ) → Input
+  restart : (map log : List ℕ) → Input
+
+abbrev pub gets : Input → ℕ
+gets (message m t b) = outcome m t b .refusal
+gets (note m l first len number image) = noteAnswer m l first len number image
+gets (write m first piece number image) = writeAnswer m first (length piece) number (length image)
+gets (restart m l) = restartAnswer m l
+
+-- "Numbers arrive as 64-bit values", and buffers hold bytes
+abbrev pub fits : List ℕ → Bool
+fits = all (λ n. ltb n (2 ^ 64))
+
+abbrev pub fields : Message → List ℕ
+fields (Request c s m f l) = c ∷ s ∷ m ∷ f ∷ l ∷ []
+fields (Acknowledge c h) = c ∷ h ∷ []
+fields (Downgrade c h) = c ∷ h ∷ []
+fields (Release c h) = c ∷ h ∷ []
+
+abbrev pub Lent : Input → Type 0
+Lent (message m t b) = T (fits (fields m)) × Bytes t × Bytes b
+Lent (note m l first len number image) = T (fits (first ∷ len ∷ number ∷ image ∷ [])) × Bytes m × Bytes l
+Lent (write m first piece number image) = T (fits (first ∷ number ∷ [])) × Bytes m × Bytes piece × Bytes image
+Lent (restart m l) = Bytes m × Bytes l
+
+-- Some input gets each of these numbers
+abbrev pub Reached : List ℕ → Type 0
+Reached [] = Unit {0}
+Reached (n ∷ ns) = ((i : Input) × Lent i × (gets i ≡ n)) × Reached ns
+
+pub record Demand1 : Type 0 where
+  pub messages : (m : Message) (table events : List ℕ) → Bytes table → OfMessage m table events
+  pub notes : (map log : List ℕ) (first len number image : ℕ) → OfNote map log first len number image
+  pub writes : (map : List ℕ) (first : ℕ) (piece : List ℕ) (number : ℕ) (image : List ℕ) → OfWrite map first piece number image
+  pub restarts : (map log : List ℕ) → OfRestart map log
+  -- "For each number 1 to 18 an input that gets it, so that no refusal is dead."
+  pub reached : Reached (upFrom 1 18)
