@@ -19,7 +19,8 @@ use Rattle.table.specs.Sound.{valid, room, wants, sound}
 use Rattle.table.specs.Bytes.{lockLayout, lastsLayout}
 use Rattle.table.proofs.Facts.{Valid, valid→, Sound, sound→}
 use Rattle.table.proofs.Records.{lockFields}
-use Rattle.locks.specs.Settle.{Event}
+use Rattle.modes.specs.Codes.{asked}
+use Rattle.locks.specs.Settle.{Event, revocation, inState}
 use Rattle.locks.specs.Events.{eventLayout, eventFields}
 use Rattle.promises.proofs.Encoding.{FitTable}
 
@@ -50,6 +51,13 @@ module _ (issued : ℕ) (lasts : List ℕ) (rs : List Lock) (S : Sound issued la
   -- its event fits as well
   pub event-fits : (k : ℕ) (r : Lock) → k < 3 → T (valid issued lasts r) → Fit (eventLayout width) (eventFields (record { kind = k; lock = r }))
   event-fits k r h t = (omega arith, lock-fits r t)
+
+  pub asked-fits : (r : Lock) → T (valid issued lasts r) → Fit (eventLayout width) (eventFields (revocation (inState asked r)))
+  asked-fits r t =
+      let v = valid→ issued lasts r t in
+      let n = number-small r v in
+      let f = S .few in
+      (omega arith, (omega arith, (omega arith, (omega arith, (omega arith, (omega arith, (omega arith, (omega arith, (omega arith, tt)))))))))
 
   row-fits : (n : ℕ) (ls : List ℕ) → length ls ≡ n → ((s : ℕ) → s < n → getD ls s 0 < 256 ^ 4) → Fit (replicate n 4) ls
   row-fits zero [] e h = tt

@@ -13,3 +13,6 @@ pub mod Outcomes
 pub mod Determined
 pub mod Reached
 pub mod Demand1
+pub mod Members
+pub mod Settled
+pub mod Demand2

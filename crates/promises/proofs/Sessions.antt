@@ -64,7 +64,7 @@ refused-same X m = go (eqb (refusal X m) 0)
     go true e = never (sym e)
     go false e = refl
 
-follows : (m : Message) (t b : List ℕ) (r : Answer) (u c : List ℕ) → soundTableBytes t ≡ true → eventsSize width ≤ length b → Leaves (outcome m t b) t b r u c → Follows (serve (tableOf width t) m .table) u
+pub follows : (m : Message) (t b : List ℕ) (r : Answer) (u c : List ℕ) → soundTableBytes t ≡ true → eventsSize width ≤ length b → Leaves (outcome m t b) t b r u c → Follows (serve (tableOf width t) m .table) u
 follows m t b r u c s h L = go (eqb (o .refusal) 0) refl
   where
     o : Outcome

@@ -1,0 +1,152 @@
+-- What the events of an accepted call are: revocations of the wanted locks, and grants, each the greatest at its turn. The thought: the events of the
+-- turns are grants alone, and the last of n + 1 turns adds the grant at place n or nothing.
+use Prim.Native.Nat.{ℕ, zero, suc, _≤_, _<_}
+use native.Mathlib.Omega.{arith}
+use mathlib.Core.Bool.{Bool, true, false, not, _&&_, cond}
+use mathlib.Core.List.{List, [], _∷_, _++_, map}
+use mathlib.Core.Logic.{_⊎_, inl, inr}
+use mathlib.Core.Path.{_≡_, refl, sym, ap, subst, _∙_}
+use lib.Dec.{T, eqb, eqb→eq}
+use lib.ListN.{length}
+use Rattle.common.specs.Ranges.{eof}
+use Rattle.common.specs.Tests.{all, any, keep, implies}
+use Rattle.common.proofs.Bools.{and-l, and-r, and-i, imp-e, by-cond, cond-true}
+use Rattle.common.proofs.Order.{eq→eqb}
+use Rattle.modes.specs.Codes.{granted, asked, canceling}
+use Rattle.table.specs.declared.Lock.{Lock}
+use Rattle.table.specs.Table.{Table, nth, waits}
+use Rattle.table.specs.Sound.{sound}
+use Rattle.table.proofs.Facts.{Sound, sound→}
+use Rattle.locks.specs.declared.Message.{Message}
+use Rattle.locks.specs.Conflicts.{obstacle, hurries}
+use Rattle.locks.specs.Settle.{Event, Settled, grantEvent, revocation, inState, given, nextNumber, widest, grant, free, granting, turn, turns, presses, wanted, revocations, settle}
+use Rattle.locks.specs.Refusals.{refusal}
+use Rattle.locks.specs.Serve.{Outcome, change, answered, accepted, refused, serve}
+use Rattle.locks.proofs.Served.{change-sound}
+use Rattle.locks.proofs.Walk.{Walked}
+use Rattle.locks.proofs.Events.{Spared, spare}
+use Rattle.locks.proofs.Waits.{stuck, Calm, serve-calm}
+use Rattle.locks.proofs.Greatest.{Greatest, turn-greatest}
+use Rattle.promises.specs.Demand2.{In, Widest, settling, Fair}
+use Rattle.promises.proofs.Members.{in-all, in-split, in-right, in-keep, keep-in, in-map, map-in}
+
+-- a grant in state 1 was hurried by no request
+not-hurried : (lasts : List ℕ) (rs : List Lock) (w : Lock) → grant lasts rs w .state ≡ granted → T (not (any (hurries w) rs))
+unfolding grant
+not-hurried lasts rs w = go (any (hurries w) rs)
+  where
+    go : (b : Bool) → (cond b (given w canceling (nextNumber lasts w) (w .last)) (given w granted (nextNumber lasts w) (widest w eof rs))) .state ≡ granted → T (not b)
+    go true k = absurd (let z : ⊥ = omega arith in z)
+    go false k = tt
+
+module _ (U : Table) (S : Sound (U .issued) (U .lasts) (U .locks)) where
+  -- the events of the turns are grants
+  grants : (e : Event) → In e (turns (length (U .locks)) U .events) → e .kind ≡ 1
+  grants e h =
+      let P : Spared (turns (length (U .locks)) U .table .lasts) (turns (length (U .locks)) U .table .locks) [] (turns (length (U .locks)) U .events) = spare U S .law in
+      let k = in-map grantEvent e (P .grants) (subst (λ (l : List Event). In e l) (P .are) h) in
+      ap (λ (x : Event). x .kind) (k .2)
+
+  pub is-revoked : (e : Event) → In e (settle U .events) → e .kind ≡ 2
+      → (r : Lock) × In r (turns (length (U .locks)) U .table .locks) × (e ≡ revocation (inState asked r)) × (r .state ≡ granted) × T (any (presses r) (turns (length (U .locks)) U .table .locks))
+  unfolding settle
+  is-revoked e h two = go (in-split e (turns (length (U .locks)) U .events) (revocations (turns (length (U .locks)) U .table .locks)) h)
+    where
+      rs : List Lock
+      rs = turns (length (U .locks)) U .table .locks
+
+      go : In e (turns (length (U .locks)) U .events) ⊎ In e (revocations rs) → (r : Lock) × In r rs × (e ≡ revocation (inState asked r)) × (r .state ≡ granted) × T (any (presses r) rs)
+      go (inl k) = absurd (let z : ⊥ = (let g = grants e k in omega arith) in z)
+      go (inr k) =
+          let q = in-map (λ r. revocation (inState asked r)) e (keep (wanted rs) rs) k in
+          let r : Lock = q .0 in
+          let w = in-keep (wanted rs) r rs (q .1) in
+          (r, w .0, q .2, eqb→eq (r .state) granted (and-l (eqb (r .state) granted) (any (presses r) rs) (w .1)), and-r (eqb (r .state) granted) (any (presses r) rs) (w .1))
+
+  pub each-revoked : (r : Lock) → In r (turns (length (U .locks)) U .table .locks) → r .state ≡ granted → T (any (presses r) (turns (length (U .locks)) U .table .locks)) → In (revocation (inState asked r)) (settle U .events)
+  unfolding settle
+  each-revoked r h s t =
+      in-right (revocation (inState asked r)) (turns (length (U .locks)) U .events) (revocations rs)
+      (map-in (λ r. revocation (inState asked r)) r (keep (wanted rs) rs) (keep-in (wanted rs) r rs h (and-i (eqb (r .state) granted) (any (presses r) rs) (eq→eqb (r .state) granted s) t)))
+    where
+      rs : List Lock
+      rs = turns (length (U .locks)) U .table .locks
+
+  -- e is the grant at place n, the greatest at its turn
+  abbrev Wide : Event → ℕ → Type 0
+  Wide e n =
+      (e ≡ grantEvent (grant (turns n U .table .lasts) (turns n U .table .locks) (nth (turns n U .table) n)))
+      × Widest (nth (turns n U .table) n) (turns n U .table .locks) (e .lock .last)
+
+  wide-here : (n : ℕ) (e : Event) → n < length (U .locks) → T (free (turns n U .table .locks) (nth (turns n U .table) n))
+      → e ≡ grantEvent (grant (turns n U .table .lasts) (turns n U .table .locks) (nth (turns n U .table) n)) → e .lock .state ≡ granted → Wide e n
+  wide-here n e h f q s =
+      let G = turn-greatest U S n h f unhurried in
+      (q, subst (λ (l : ℕ). Widest w rs l) (sym (ap (λ (x : Event). x .lock .last) q)) (record { reaches = G .reaches; ends = G .within-eof; clear = G .clear-of-all; greatest = G .no-further }))
+    where
+      rs : List Lock
+      rs = turns n U .table .locks
+
+      w : Lock
+      w = nth (turns n U .table) n
+
+      state : grant (turns n U .table .lasts) rs w .state ≡ granted
+      state = sym (ap (λ (x : Event). x .lock .state) q) ∙ s
+
+      unhurried : T (not (any (hurries w) rs))
+      unhurried = not-hurried (turns n U .table .lasts) rs w state
+
+  wide-turns : (n : ℕ) (e : Event) → n ≤ length (U .locks) → In e (turns n U .events) → e .lock .state ≡ granted → (k : ℕ) × (k < length (U .locks)) × Wide e k
+  unfolding turns turn
+  wide-turns zero e h i s = absurd i
+  wide-turns (suc n) e h i s = go (free rs w) (λ f. f) (λ j. wide-turns n e (omega arith) j s) i
+    where
+      rs : List Lock
+      rs = turns n U .table .locks
+
+      w : Lock
+      w = nth (turns n U .table) n
+
+      last-one : T (free rs w) → (In e (turns n U .events) → (k : ℕ) × (k < length (U .locks)) × Wide e k) → In e (turns n U .events) ⊎ In e (grantEvent (grant (turns n U .table .lasts) rs w) ∷ []) → (k : ℕ) × (k < length (U .locks)) × Wide e k
+      last-one f r (inl j) = r j
+      last-one f r (inr (inl q)) = (n, h, wide-here n e h f q s)
+      last-one f r (inr (inr z)) = absurd z
+
+      go : (b : Bool) → (T b → T (free rs w)) → (In e (turns n U .events) → (k : ℕ) × (k < length (U .locks)) × Wide e k) → In e ((cond b (granting n (turns n U) w (grant (turns n U .table .lasts) rs w)) (turns n U)) .events) → (k : ℕ) × (k < length (U .locks)) × Wide e k
+      go true f r j = last-one (f tt) r (in-split e (turns n U .events) (grantEvent (grant (turns n U .table .lasts) rs w) ∷ []) j)
+      go false f r j = r j
+
+  pub is-widened : (e : Event) → In e (settle U .events) → e .kind ≡ 1 → e .lock .state ≡ granted → (k : ℕ) × (k < length (U .locks)) × Wide e k
+  unfolding settle
+  is-widened e h one s = go (in-split e (turns (length (U .locks)) U .events) (revocations rs) h)
+    where
+      rs : List Lock
+      rs = turns (length (U .locks)) U .table .locks
+
+      go : In e (turns (length (U .locks)) U .events) ⊎ In e (revocations rs) → (k : ℕ) × (k < length (U .locks)) × Wide e k
+      go (inl k) = wide-turns (length (U .locks)) e (omega arith) k s
+      go (inr k) =
+          let q = in-map (λ r. revocation (inState asked r)) e (keep (wanted rs) rs) k in
+          let two : e .kind ≡ 2 = ap (λ (x : Event). x .kind) (q .2) in
+          absurd (let z : ⊥ = omega arith in z)
+
+-- An accepted call
+module _ (X : Table) (m : Message) (q : T (sound X)) (z : T (eqb (refusal X m) 0)) where
+  good : Sound (change X m .issued) (change X m .lasts) (change X m .locks)
+  good = change-sound X m z (sound→ X q)
+
+  is : serve X m ≡ accepted (answered X m) (settle (change X m))
+  unfolding serve
+  is = cond-true (eqb (refusal X m) 0) (accepted (answered X m) (settle (change X m))) (refused X (refusal X m)) z
+
+  own : (e : Event) → In e (serve X m .events) → In e (settle (change X m) .events)
+  own e h = subst (λ (o : Outcome). In e (o .events)) is h
+
+  pub serve-fair : Fair X m
+  serve-fair = record {
+    waiters = λ w h t.
+        imp-e (waits w) (any (obstacle w) (serve X m .table .locks)) (in-all (stuck (serve X m .table .locks)) w (serve X m .table .locks) h (serve-calm X m q z .waiters)) t;
+    revoked = λ e h k. is-revoked (change X m) good e (own e h) k;
+    each = λ r h s t. subst (λ (o : Outcome). In (revocation (inState asked r)) (o .events)) (sym is) (each-revoked (change X m) good r h s t);
+    widened = λ e h k s. let W = is-widened (change X m) good e (own e h) k s in (W .0, W .1, W .2 .0, W .2 .1);
+  }

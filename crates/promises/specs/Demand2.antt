@@ -1,0 +1,95 @@
+-- DEMAND 2. "A session is a list of messages from the empty table through the entries on bytes. Grants, waits, revocations and widened ranges are those
+-- of the rules; the table stays sound; the bytes are what XDR says; each record at most one event a call; no waiter without an obstacle; every
+-- revocation goes to a lock that conflicts with a waiting request, and each such lock in state 1 gets one."
+use Prim.Native.Nat.{ℕ, _≤_, _<_}
+use mathlib.Core.Path.{_≡_}
+use mathlib.Core.Bool.{true, not}
+use mathlib.Core.Logic.{_⊎_}
+use mathlib.Core.List.{List, [], _∷_, _++_, map}
+use lib.Dec.{T, eqb, ltb}
+use lib.ListN.{length, getD, replicate}
+use Rattle.common.specs.Counters.{width}
+use Rattle.common.specs.Ranges.{eof}
+use Rattle.common.specs.Tests.{any, pairs, upFrom}
+use Rattle.xdr.specs.Array.{array, arraySize}
+use Rattle.modes.specs.Codes.{granted, asked}
+use Rattle.table.specs.declared.Lock.{Lock}
+use Rattle.table.specs.Table.{Table, empty, handleOf, nth, lastOf, waits, maxRecords}
+use Rattle.table.specs.Bytes.{tableSize, tableOf, soundTableBytes}
+use Rattle.locks.specs.declared.Message.{Message}
+use Rattle.locks.specs.Conflicts.{against, obstacle}
+use Rattle.locks.specs.Settle.{Event, Settled, grantEvent, revocation, inState, grant, turns, presses}
+use Rattle.locks.specs.Serve.{change, serve}
+use Rattle.locks.specs.Events.{eventLayout, eventFields, eventsSize}
+use Rattle.locks.specs.Session.{after, events, numbers}
+use Rattle.serve.specs.declared.Answer.{Answer}
+use Rattle.serve.specs.Serves.{Leaves}
+use Rattle.gilboreth.specs.Messages.{outcome}
+use Rattle.promises.specs.Session.{Session}
+
+abbrev pub In : {A : Type 0} → A → List A → Type 0
+In x [] = ⊥
+In x (y ∷ ys) = (x ≡ y) ⊎ In x ys
+
+abbrev pub rising : List Lock → Type 0
+rising rs = T (pairs (λ a b. ltb (handleOf a) (handleOf b)) rs)
+
+-- The last byte l of a grant of w among the records rs is "the greatest one up to EOF for which the range conflicts with no held lock and no other
+-- waiting request"
+pub record Widest (w : Lock) (rs : List Lock) (l : ℕ) : Type 0 where
+  pub reaches : w .last ≤ l
+  pub ends : l ≤ eof
+  pub clear : T (not (any (against w l) rs))
+  pub greatest : (k : ℕ) → l < k → k ≤ eof → T (any (against w k) rs)
+
+-- The table X with the message's own change, when the first n places had their turn; and when all had
+abbrev pub turned : Table → Message → ℕ → Settled
+turned X m n = turns n (change X m)
+
+abbrev pub settling : Table → Message → List Lock
+settling X m = turned X m (length (change X m .locks)) .table .locks
+
+-- What the rules give where they accept the message m on the table X
+pub record Fair (X : Table) (m : Message) : Type 0 where
+  -- "no waiter without an obstacle"
+  pub waiters : (w : Lock) → In w (serve X m .table .locks) → T (waits w) → T (any (obstacle w) (serve X m .table .locks))
+  -- "every revocation goes to a lock that conflicts with a waiting request, and each such lock in state 1 gets one"
+  pub revoked :
+      (e : Event) → In e (serve X m .events) → e .kind ≡ 2
+      → (r : Lock) × In r (settling X m) × (e ≡ revocation (inState asked r)) × (r .state ≡ granted) × T (any (presses r) (settling X m))
+  pub each : (r : Lock) → In r (settling X m) → r .state ≡ granted → T (any (presses r) (settling X m)) → In (revocation (inState asked r)) (serve X m .events)
+  -- a grant in state 1 is widened as far as can be, at the turn of its place n
+  pub widened :
+      (e : Event) → In e (serve X m .events) → e .kind ≡ 1 → e .lock .state ≡ granted
+      → (n : ℕ) × (n < length (change X m .locks))
+      × (e ≡ grantEvent (grant (turned X m n .table .lasts) (turned X m n .table .locks) (nth (turned X m n .table) n)))
+      × Widest (nth (turned X m n .table) n) (turned X m n .table .locks) (e .lock .last)
+
+-- A call on a table that the rules have as X: it answers r, and leaves u in the table and c in the event buffer, which was b
+pub record Called (X : Table) (m : Message) (b : List ℕ) (r : Answer) (u c : List ℕ) : Type 0 where
+  -- "those of the rules": the answer, the table, the events. "The bytes are what XDR says"
+  pub answer : r ≡ record { refusal = serve X m .refusal; handle = serve X m .handle; events = length (serve X m .events) }
+  pub table : tableOf width u ≡ serve X m .table
+  pub events : serve X m .refusal ≡ 0 → array (eventLayout width) c 0 ≡ map eventFields (serve X m .events)
+  pub beyond : (k : ℕ) → arraySize (length (serve X m .events)) (eventLayout width) ≤ k → getD c k 0 ≡ getD b k 0
+  -- "the table stays sound"
+  pub sound : soundTableBytes u ≡ true
+  -- "each record at most one event a call", so at most 256; grants in rising handle, then revocations in rising handle
+  pub once : T (pairs (λ x y. not (eqb (handleOf (x .lock)) (handleOf (y .lock)))) (serve X m .events))
+  pub few : length (serve X m .events) ≤ maxRecords
+  pub order : (gs rs : List Lock) × (serve X m .events ≡ map grantEvent gs ++ map revocation rs) × rising gs × rising rs
+  pub fair : serve X m .refusal ≡ 0 → Fair X m
+
+-- After a session of the entries: its table and events are the rules', a stripe's write grants are numbered 1, 2, 3, .., and so goes any call that
+-- comes next. Each call of a session comes next after those before it
+pub record Followed (ms : List Message) (es : List Event) (t : List ℕ) : Type 0 where
+  pub table : tableOf width t ≡ after empty ms
+  pub sound : soundTableBytes t ≡ true
+  pub events : es ≡ events empty ms
+  pub numbered : (s : ℕ) → numbers s es ≡ upFrom 1 (lastOf (after empty ms) s)
+  pub next :
+      (m : Message) (b : List ℕ) (r : Answer) (u c : List ℕ) → eventsSize width ≤ length b → Leaves (outcome m t b) t b r u c
+      → Called (after empty ms) m b r u c
+
+abbrev pub Demand2 : Type 0
+Demand2 = (ms : List Message) (es : List Event) (t : List ℕ) → Session (replicate (tableSize width) 0) ms es t → Followed ms es t
