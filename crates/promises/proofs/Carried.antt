@@ -9,20 +9,23 @@ use lib.ListN.{length, getD, replicate}
 use borrow.Author.Tests.{eqb-true, eq-eqb, lt-ltb}
 use Rattle.common.specs.Counters.{width, highest}
 use Rattle.common.proofs.Bools.{by-cond}
+use Rattle.xdr.specs.Be.{putBe}
 use Rattle.xdr.specs.Layout.{Fit}
+use Rattle.xdr.specs.Array.{putArray, putElements}
 use Rattle.xdr.specs.Tab.{tab}
+use Rattle.xdr.proofs.Numbers.{put-be}
 use Rattle.xdr.proofs.Tabs.{length-tab, getD-tab}
 use Rattle.runs.specs.declared.Run.{Run}
 use Rattle.runs.specs.Owner.{owner, over, ageOf}
 use Rattle.runs.specs.Map.{mapOf, raise, draw, end}
 use Rattle.runs.specs.Sound.{maxRuns, maxEntries, soundMap, soundLog, allValid, apart}
-use Rattle.runs.specs.Bytes.{runLayout, runFields, runsOf, runsEnd, mapSize, logSize, soundMapBytes, soundLogBytes, mapBytes, appended}
+use Rattle.runs.specs.Bytes.{runLayout, runFields, runsOf, runsEnd, mapSize, logSize, soundMapBytes, soundLogBytes, bytesOf, mapBytes, appended}
 use Rattle.runs.proofs.Over.{over-is, owner-snoc}
 use Rattle.runs.proofs.Draw.{map-owner, raise-owner}
 use Rattle.runs.proofs.Unique.{map-snoc}
 use Rattle.runs.proofs.Valid.{Valid, valid-cons}
 use Rattle.runs.proofs.Sound.{log-is, sound-is, map-sound}
-use Rattle.runs.proofs.Blank.{no-runs, empty-map, empty-log}
+use Rattle.runs.proofs.Blank.{blank, be-blank, no-runs, empty-map, empty-log}
 use Rattle.runs.proofs.MapBytes.{run-fits, map-back, map-back-sound, map-runs}
 use Rattle.runs.proofs.LogBytes.{LogBytes, log-bytes, bytes-log, entries, log-back, log-back-sound, log-same}
 use Rattle.stripe.specs.Refusals.{place}
@@ -40,7 +43,7 @@ placeOf p = place (p .first) (size p) (p .number)
 
 abbrev pub IsMap : Map → List ℕ → Type 0
 IsMap lost log = Unit {0}
-IsMap (live m) log = (soundMapBytes m ≡ true) × (runsOf width m ≡ mapOf (runsOf width log))
+IsMap (live m) log = (soundMapBytes m ≡ true) × (runsOf width m ≡ mapOf (runsOf width log)) × (m ≡ mapBytes width (mapOf (runsOf width log)))
 
 pub record Log (log : List ℕ) : Type 0 where
   pub sound : LogBytes log
@@ -70,7 +73,7 @@ noted m log p image L M e =
       });
       entries = ap (runsOf width) new-log ∙ back;
       map = subst₂ (λ (a l : List ℕ). IsMap (live a) l) (sym new-map) (sym new-log)
-          (map-back-sound ms sound small, map-back ms sound small ∙ ap (λ (l : List Run). raise r l) (M .1) ∙ sym (map-snoc (runsOf width log) r) ∙ ap mapOf (sym back));
+          (map-back-sound ms sound small, map-back ms sound small ∙ drawn, ap (mapBytes width) drawn);
     }
   where
     r : Run
@@ -99,6 +102,9 @@ noted m log p image L M e =
 
     small : (b : ℕ) → owner ms b ≤ highest width
     small b = rw (raise-owner r (runsOf width m) b, M .1, map-owner (runsOf width log) b) (let o = over-is (λ (k : ℕ). k ≤ highest width) r b (F .numbered .small) (omega arith) in omega (arith, L .small b))
+
+    drawn : ms ≡ mapOf (runsOf width (appended width log r))
+    drawn = ap (λ (l : List Run). raise r l) (M .1) ∙ sym (map-snoc (runsOf width log) r) ∙ ap mapOf (sym back)
 
     new-log : noteLog m log (p .first) (size p) (p .number) image ≡ appended width log r
     new-log = ap (λ (t : Bool). cond t (appended width log r) log) e
@@ -143,7 +149,7 @@ restarted : (buffer log : List ℕ) → Log log → eqb (restartAnswer buffer lo
 unfolding restartMap
 restarted buffer log L e =
     subst (λ (m : List ℕ). IsMap (live m) log) (sym (ap (λ (t : Bool). cond t (mapBytes width (mapOf (runsOf width log))) buffer) e))
-    (map-back-sound (mapOf (runsOf width log)) sound small, map-back (mapOf (runsOf width log)) sound small)
+    (map-back-sound (mapOf (runsOf width log)) sound small, map-back (mapOf (runsOf width log)) sound small, refl)
   where
     sound : soundMap (mapOf (runsOf width log)) ≡ true
     sound = map-sound (runsOf width log) (log-is (runsOf width log) (L .sound .sound) .good) (L .few)
@@ -199,8 +205,13 @@ carried s (restart buffer) C = go (eqb (restartAnswer buffer (s .log)) 0) refl
     go false e = C
 carried s cut C = record { log = C .log; map = tt }
 
+-- no runs, in zeros
+empty-bytes : (n : ℕ) → bytesOf width n [] ≡ replicate n 0
+unfolding putArray putElements
+empty-bytes n = ap (putBe 4 (replicate n 0) 0) (sym (be-blank 4 n 0)) ∙ put-be 4 (replicate n 0) 0 (λ b. let e = blank n b in omega arith)
+
 pub begin-carried : (image : List ℕ) → Carried (begin image)
-unfolding owner mapOf draw end
+unfolding owner mapOf draw end mapBytes
 begin-carried image =
     record {
       log = record {
@@ -208,5 +219,9 @@ begin-carried image =
         small = λ b. rw (no-runs (logSize width)) (omega arith);
         few = rw (no-runs (logSize width)) (omega arith);
       };
-      map = (empty-map, no-runs (mapSize width) ∙ sym (ap mapOf (no-runs (logSize width))));
+      map = (
+        empty-map,
+        no-runs (mapSize width) ∙ sym (ap mapOf (no-runs (logSize width))),
+        sym (ap (λ (rs : List Run). mapBytes width (mapOf rs)) (no-runs (logSize width)) ∙ empty-bytes (mapSize width)),
+      );
     }

@@ -11,12 +11,11 @@ use Rattle.common.proofs.Order.{below, same}
 use Rattle.runs.specs.declared.Run.{Run}
 use Rattle.runs.specs.Owner.{owner}
 use Rattle.common.specs.Counters.{width}
-use Rattle.runs.specs.Bytes.{mapSize, logSize}
+use Rattle.runs.specs.Bytes.{logSize}
 use Rattle.runs.proofs.Blank.{no-runs}
-use Rattle.gilboreth.specs.Restart.{restartAnswer}
-use Rattle.promises.specs.Run.{Piece, ageOf, Covers, byteOf, Stripe, begin, Step, next, after, notes, noted, Write, writes, accepted, pieces}
-use Rattle.promises.specs.Demand3.{Among, HasWrite, Finished, Agree, Greatest, Kept, Demand3}
-use Rattle.promises.proofs.Carried.{entriesOf, Carried, carried, begin-carried, restarts}
+use Rattle.promises.specs.Run.{Piece, ageOf, Covers, byteOf, Map, lost, live, Stripe, begin, Step, next, after, notes, noted, Write, writes, accepted, pieces}
+use Rattle.promises.specs.Demand3.{Among, HasWrite, Finished, Agree, Greatest, Kept, Demand3, LogsMap, Steady, Always}
+use Rattle.promises.proofs.Carried.{entriesOf, IsMap, Carried, carried, begin-carried, restarts}
 use Rattle.promises.proofs.Views.{covered, given, given-in, given-out, View, quiet, new, wrote, view}
 use Rattle.promises.proofs.Byte.{Start, finished-drop, has-right, step}
 use Rattle.promises.proofs.Pieces.{noted-pieces, accepted-pieces}
@@ -94,10 +93,17 @@ demand3 image es agree sent finished =
     }
 
 -- "With it: in every run the map is the log's map, and no restart is refused"
-pub run-carried : (es : List Step) (s : Stripe) → Carried s → Carried (after s es)
+run-carried : (es : List Step) (s : Stripe) → Carried s → Carried (after s es)
 unfolding after
 run-carried [] s C = C
 run-carried (e ∷ es) s C = run-carried es (next s e) (carried s e C)
 
-pub restart-accepted : (image : List ℕ) (es : List Step) (buffer : List ℕ) → length buffer ≡ mapSize width → restartAnswer buffer (after (begin image) es .log) ≡ 0
-restart-accepted image es buffer h = restarts buffer (after (begin image) es .log) (run-carried es (begin image) (begin-carried image) .log) h
+steady : (s : Stripe) → Carried s → Steady s
+steady s C = record { map = go (s .map) (C .map); restarts = λ buffer h. restarts buffer (s .log) (C .log) h }
+  where
+    go : (m : Map) → IsMap m (s .log) → LogsMap m (s .log)
+    go lost M = tt
+    go (live m) M = (M .0, M .2)
+
+pub always : Always
+always image es = steady (after (begin image) es) (run-carried es (begin image) (begin-carried image))

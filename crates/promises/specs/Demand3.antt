@@ -7,7 +7,11 @@ use mathlib.Core.Logic.{_⊎_}
 use mathlib.Core.Bool.{true}
 use mathlib.Core.List.{List, [], _∷_}
 use lib.ListN.{length, getD}
-use Rattle.promises.specs.Run.{Piece, ageOf, Covers, byteOf, Stripe, begin, Step, after, noted, Write, accepted, pieces}
+use Rattle.common.specs.Counters.{width}
+use Rattle.runs.specs.Map.{mapOf}
+use Rattle.runs.specs.Bytes.{runsOf, mapSize, soundMapBytes, mapBytes}
+use Rattle.gilboreth.specs.Restart.{restartAnswer}
+use Rattle.promises.specs.Run.{Piece, ageOf, Covers, byteOf, Map, lost, live, Stripe, begin, Step, after, noted, Write, accepted, pieces}
 
 abbrev pub Among : Piece → List Piece → Type 0
 Among p [] = ⊥
@@ -42,3 +46,16 @@ Demand3 =
     → ((p : Piece) → Among p (noted (begin image) es) → HasWrite p (accepted (begin image) es))
     → Finished (accepted (begin image) es)
     → Kept (noted (begin image) es) image (after (begin image) es .image)
+
+-- With it: "in every run the map is the log's map, and no restart is refused". While the map is not lost it is sound, and to the byte what a restart
+-- fills in; a restart is lent a buffer of the map's length
+abbrev pub LogsMap : Map → List ℕ → Type 0
+LogsMap lost log = Unit {0}
+LogsMap (live m) log = (soundMapBytes m ≡ true) × (m ≡ mapBytes width (mapOf (runsOf width log)))
+
+pub record Steady (s : Stripe) : Type 0 where
+  pub map : LogsMap (s .map) (s .log)
+  pub restarts : (buffer : List ℕ) → length buffer ≡ mapSize width → restartAnswer buffer (s .log) ≡ 0
+
+abbrev pub Always : Type 0
+Always = (image : List ℕ) (es : List Step) → Steady (after (begin image) es)
