@@ -1,14 +1,14 @@
 -- One byte followed through a run. The thought: once a byte has its greatest age N, what stands there is right, or an accepted write of a piece of
 -- age N is still to come; a cut write is followed by another of its piece.
-use Prim.Native.Nat.{ℕ, _+_, _-_, _≤_, _<_, max}
+use Prim.Native.Nat.{ℕ, _+_, _≤_}
 use native.Mathlib.Omega.{arith}
 use mathlib.Core.Path.{_≡_, refl, sym, _∙_, ap, subst}
 use mathlib.Core.Logic.{_⊎_, inl, inr, ⊎-elim}
-use mathlib.Core.Bool.{Bool, true, false, cond, _&&_}
+use mathlib.Core.Bool.{Bool, true, false}
 use mathlib.Core.List.{List, [], _∷_, _++_}
-use lib.ListN.{length, getD}
+use lib.ListN.{getD}
 use Rattle.common.proofs.Bools.{never}
-use Rattle.common.proofs.Order.{below, same}
+use Rattle.common.proofs.Order.{same}
 use Rattle.runs.specs.declared.Run.{Run}
 use Rattle.runs.specs.Owner.{owner}
 use Rattle.promises.specs.Run.{Piece, ageOf, Covers, byteOf, Stripe, Write}

@@ -1,5 +1,5 @@
 -- What every run carries: the log's bytes are sound, its numbers small, its map short; and the map, while it is not lost, is sound and is the log's map.
-use Prim.Native.Nat.{ℕ, zero, suc, _+_, _≤_, _<_, max}
+use Prim.Native.Nat.{ℕ, _+_, _≤_, _<_}
 use native.Mathlib.Omega.{arith}
 use mathlib.Core.Bool.{Bool, true, false, _&&_, cond}
 use mathlib.Core.List.{List, [], _∷_, _++_}
@@ -12,13 +12,12 @@ use Rattle.common.proofs.Bools.{by-cond}
 use Rattle.xdr.specs.Be.{putBe}
 use Rattle.xdr.specs.Layout.{Fit}
 use Rattle.xdr.specs.Array.{putArray, putElements}
-use Rattle.xdr.specs.Tab.{tab}
 use Rattle.xdr.proofs.Numbers.{put-be}
 use Rattle.xdr.proofs.Tabs.{length-tab, getD-tab}
 use Rattle.runs.specs.declared.Run.{Run}
-use Rattle.runs.specs.Owner.{owner, over, ageOf}
+use Rattle.runs.specs.Owner.{owner}
 use Rattle.runs.specs.Map.{mapOf, raise, draw, end}
-use Rattle.runs.specs.Sound.{maxRuns, maxEntries, soundMap, soundLog, allValid, apart}
+use Rattle.runs.specs.Sound.{maxRuns, maxEntries, soundMap}
 use Rattle.runs.specs.Bytes.{runLayout, runFields, runsOf, runsEnd, mapSize, logSize, soundMapBytes, soundLogBytes, bytesOf, mapBytes, appended}
 use Rattle.runs.proofs.Over.{over-is, owner-snoc}
 use Rattle.runs.proofs.Draw.{map-owner, raise-owner}
@@ -30,10 +29,9 @@ use Rattle.runs.proofs.MapBytes.{run-fits, map-back, map-back-sound, map-runs}
 use Rattle.runs.proofs.LogBytes.{LogBytes, log-bytes, bytes-log, entries, log-back, log-back-sound, log-same}
 use Rattle.stripe.specs.Refusals.{place}
 use Rattle.gilboreth.specs.Note.{noteAnswer, noteMap, noteLog}
-use Rattle.gilboreth.specs.Write.{writeImage}
 use Rattle.gilboreth.specs.Restart.{restartAnswer, restartMap}
-use Rattle.stripe.proofs.Accepted.{NoteFacts, note-facts, RestartFacts, restart-facts, facts-restart, place-valid}
-use Rattle.promises.specs.Run.{Piece, size, Map, lost, live, Stripe, begin, Step, note, noteCut, write, writeCut, restart, cut, noteOk, writeOk, afterNote, afterWrite, afterRestart, scrambled, unplugged, next}
+use Rattle.stripe.proofs.Accepted.{NoteFacts, note-facts, facts-restart, place-valid}
+use Rattle.promises.specs.Run.{Piece, size, Map, lost, live, Stripe, begin, Step, note, noteCut, write, writeCut, restart, cut, noteOk, afterNote, afterWrite, scrambled, next}
 
 abbrev pub entriesOf : Stripe → List Run
 entriesOf s = runsOf width (s .log)

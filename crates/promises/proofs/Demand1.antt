@@ -5,7 +5,7 @@ use lib.ListN.{replicate}
 use Rattle.common.specs.Counters.{width}
 use Rattle.xdr.specs.Be.{Bytes}
 use Rattle.xdr.proofs.Arrays.{put-array-bytes}
-use Rattle.table.specs.Table.{Table, empty, maxRecords}
+use Rattle.table.specs.Table.{empty, maxRecords}
 use Rattle.runs.specs.declared.Run.{Run}
 use Rattle.runs.specs.Sound.{maxEntries}
 use Rattle.runs.specs.Bytes.{runLayout, runFields, mapSize, logSize, bytesOf, mapBytes}

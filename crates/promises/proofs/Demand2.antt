@@ -1,8 +1,8 @@
 -- Demand 2: a session of the entries is one of the rules (Sessions), and the rules' theorems speak of each call. New here: the events' array decodes
 -- to the rules' events, since an event shows a record of a sound table, which fits its fields.
-use Prim.Native.Nat.{ℕ, _+_, _*_, _^_, _≤_, _<_}
+use Prim.Native.Nat.{ℕ, _+_, _≤_}
 use native.Mathlib.Omega.{arith}
-use mathlib.Core.Bool.{Bool, true, false, not, _&&_, cond}
+use mathlib.Core.Bool.{Bool, true, not, cond}
 use mathlib.Core.List.{List, [], _∷_, _++_, map}
 use mathlib.Core.Path.{_≡_, refl, sym, ap, subst, _∙_}
 use lib.Dec.{T, eqb}
@@ -19,7 +19,7 @@ use Rattle.xdr.specs.Array.{array, arraySize, Fits}
 use Rattle.xdr.proofs.Arrays.{array-put, put-array-other}
 use Rattle.modes.specs.Codes.{asked}
 use Rattle.table.specs.declared.Lock.{Lock}
-use Rattle.table.specs.Table.{Table, empty, handleOf, maxRecords}
+use Rattle.table.specs.Table.{Table, empty, handleOf}
 use Rattle.table.specs.Sound.{valid, sound}
 use Rattle.table.specs.Bytes.{tableSize, tableOf, soundTableBytes}
 use Rattle.table.proofs.Facts.{Sound, sound→}
@@ -30,14 +30,13 @@ use Rattle.locks.specs.Serve.{Outcome, change, answered, accepted, refused, ser
 use Rattle.locks.specs.Events.{eventLayout, eventFields, eventsSize, eventsOver}
 use Rattle.locks.specs.Session.{after, events, numbers}
 use Rattle.locks.proofs.Served.{change-sound}
-use Rattle.locks.proofs.Sessions.{session-sound, session-numbers, empty-sound}
+use Rattle.locks.proofs.Sessions.{session-numbers}
 use Rattle.locks.proofs.Walk.{Walked}
 use Rattle.locks.proofs.Events.{Spared, spare, Once, serve-once, handles}
 use Rattle.serve.specs.declared.Answer.{Answer}
 use Rattle.serve.specs.Serves.{Leaves}
 use Rattle.gilboreth.specs.Messages.{outcome}
-use Rattle.promises.specs.Session.{Session}
-use Rattle.promises.specs.Demand2.{Called, Followed, Demand2}
+use Rattle.promises.specs.Demand2.{Called, Demand2}
 use Rattle.promises.proofs.Fitting.{event-fits, asked-fits}
 use Rattle.promises.proofs.Outcomes.{served-hit}
 use Rattle.promises.proofs.Sessions.{Follows, outcome-is, bytes-sound, follows, session-follows, session-events, zeros-empty, zeros-sound}

@@ -1,20 +1,17 @@
 -- Demand 3, proved over the outcomes that the entries' contracts cite.
-use Prim.Native.Nat.{ℕ, _+_, _-_, _≤_, _<_, max}
+use Prim.Native.Nat.{ℕ, _+_, _≤_, max}
 use native.Mathlib.Omega.{arith}
 use mathlib.Core.Path.{_≡_, refl, sym, _∙_, ap, subst}
-use mathlib.Core.Logic.{_⊎_, inl, inr, ⊎-elim}
-use mathlib.Core.Bool.{Bool, true, false, cond, _&&_}
+use mathlib.Core.Logic.{inl, inr, ⊎-elim}
 use mathlib.Core.List.{List, [], _∷_, _++_}
 use lib.ListN.{length, getD}
-use Rattle.common.proofs.Bools.{never}
-use Rattle.common.proofs.Order.{below, same}
 use Rattle.runs.specs.declared.Run.{Run}
 use Rattle.runs.specs.Owner.{owner}
 use Rattle.common.specs.Counters.{width}
 use Rattle.runs.specs.Bytes.{logSize}
 use Rattle.runs.proofs.Blank.{no-runs}
 use Rattle.promises.specs.Run.{Piece, ageOf, Covers, byteOf, Map, lost, live, Stripe, begin, Step, next, after, notes, noted, Write, writes, accepted, pieces}
-use Rattle.promises.specs.Demand3.{Among, HasWrite, Finished, Agree, Greatest, Kept, Demand3, LogsMap, Steady, Always}
+use Rattle.promises.specs.Demand3.{Among, HasWrite, Finished, Demand3, LogsMap, Steady, Always}
 use Rattle.promises.proofs.Carried.{entriesOf, IsMap, Carried, carried, begin-carried, restarts}
 use Rattle.promises.proofs.Views.{covered, given, given-in, given-out, View, quiet, new, wrote, view}
 use Rattle.promises.proofs.Byte.{Start, finished-drop, has-right, step}

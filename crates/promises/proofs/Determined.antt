@@ -1,18 +1,16 @@
 -- Demand 1 of each entry at any input. A message: what it leaves is the encoded table where it is accepted, and a table has one spelling in bytes.
 -- Note, write and restart: their contracts are equations.
 use Prim.Native.Nat.{ℕ}
-use mathlib.Core.Bool.{Bool, true, false, not, cond}
-use mathlib.Core.List.{List, [], _∷_, _++_}
+use mathlib.Core.Bool.{Bool, true, false, cond}
+use mathlib.Core.List.{List, _++_}
 use mathlib.Core.Logic.{_⊎_, inl, inr}
 use mathlib.Core.Path.{_≡_, refl, sym, ap, subst, _∙_}
-use lib.Dec.{T, eqb}
+use lib.Dec.{eqb}
 use lib.ListN.{length}
 use borrow.Author.Tests.{ne-eqb}
 use Rattle.common.specs.Counters.{width}
-use Rattle.common.specs.Refusals.{firstHit}
 use Rattle.common.proofs.Bools.{by-cond, cond-true, cond-false}
 use Rattle.xdr.specs.Be.{Bytes}
-use Rattle.table.specs.Table.{Table}
 use Rattle.table.specs.Bytes.{tableOf}
 use Rattle.table.specs.Places.{Holds}
 use Rattle.table.proofs.Unique.{holds-unique}
@@ -26,7 +24,7 @@ use Rattle.gilboreth.specs.Messages.{entryRules, outcome}
 use Rattle.gilboreth.specs.Note.{noteAnswer, noteMap, noteLog}
 use Rattle.gilboreth.specs.Write.{writeAnswer, writeImage}
 use Rattle.gilboreth.specs.Restart.{restartAnswer, restartMap}
-use Rattle.promises.specs.Demand1.{Judged, Served, Noted, Written, Restarted, OfMessage, OfNote, OfWrite, OfRestart, numbersOf}
+use Rattle.promises.specs.Demand1.{Judged, Served, OfMessage, OfNote, OfWrite, OfRestart}
 use Rattle.promises.proofs.Encoding.{tableBytes, table-bytes, table-held}
 use Rattle.promises.proofs.Fitting.{sound-fits}
 use Rattle.promises.proofs.Outcomes.{judged, outcome-hit, outcome-alone, outcome-sound, outcome-listed}

@@ -2,7 +2,7 @@
 use Prim.Native.Nat.{ℕ, _+_, _*_, _^_, _≤_, _<_}
 use native.Mathlib.Omega.{arith}
 use mathlib.Core.List.{List, [], _∷_, map}
-use mathlib.Core.Path.{_≡_, refl, sym, ap, ap₂, _∙_}
+use mathlib.Core.Path.{_≡_, refl, sym, ap, _∙_}
 use lib.ListN.{length, getD, replicate, length-replicate, length-map}
 use Rattle.common.specs.Counters.{width}
 use Rattle.xdr.specs.Be.{Bytes, be, putBe}
@@ -15,7 +15,7 @@ use Rattle.xdr.proofs.Tabs.{length-tab}
 use Rattle.runs.proofs.Blank.{blank}
 use Rattle.table.specs.declared.Lock.{Lock}
 use Rattle.table.specs.Table.{Table, maxRecords}
-use Rattle.table.specs.Bytes.{lockLayout, lockOf, lastsLayout, tableSize, tableOf, recordsEnd}
+use Rattle.table.specs.Bytes.{lockLayout, lockOf, lastsLayout, tableSize}
 use Rattle.table.specs.Places.{countOf, Holds}
 use Rattle.table.proofs.Records.{lockFields}
 

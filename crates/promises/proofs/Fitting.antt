@@ -4,7 +4,7 @@ use native.Mathlib.Omega.{arith}
 use mathlib.Core.Bool.{not, _&&_}
 use mathlib.Core.List.{List, [], _∷_, map}
 use mathlib.Core.Logic.{⊎-elim}
-use mathlib.Core.Path.{_≡_, refl}
+use mathlib.Core.Path.{_≡_}
 use lib.Dec.{T, leb→le}
 use lib.ListN.{length, getD, replicate}
 use Rattle.common.specs.Counters.{width, highest}
@@ -20,7 +20,7 @@ use Rattle.table.specs.Bytes.{lockLayout, lastsLayout}
 use Rattle.table.proofs.Facts.{Valid, valid→, Sound, sound→}
 use Rattle.table.proofs.Records.{lockFields}
 use Rattle.modes.specs.Codes.{asked}
-use Rattle.locks.specs.Settle.{Event, revocation, inState}
+use Rattle.locks.specs.Settle.{revocation, inState}
 use Rattle.locks.specs.Events.{eventLayout, eventFields}
 use Rattle.promises.proofs.Encoding.{FitTable}
 

@@ -1,11 +1,11 @@
 -- What is one of a list, and what tests over the list say of it.
-use mathlib.Core.Bool.{Bool, true, false, not, _||_, cond}
+use mathlib.Core.Bool.{Bool, true, false, cond}
 use mathlib.Core.List.{List, [], _∷_, _++_, map}
 use mathlib.Core.Logic.{_⊎_, inl, inr}
 use mathlib.Core.Path.{_≡_, refl, sym, ap, subst}
 use lib.Dec.{T}
-use Rattle.common.specs.Tests.{all, any, keep}
-use Rattle.common.proofs.Bools.{and-l, and-r, or-e}
+use Rattle.common.specs.Tests.{all, keep}
+use Rattle.common.proofs.Bools.{and-l, and-r}
 use Rattle.promises.specs.Demand2.{In}
 
 module _ {A : Type 0} where

@@ -1,7 +1,6 @@
 -- The outcome of a message, whatever the bytes: its number is the first hit of the whole list, a refused one is the number alone, an accepted one
 -- leaves a sound table. The thought: 1 and 2 are judged first, and the list of the message goes on where they end.
 use Prim.Native.Nat.{ℕ}
-use native.Mathlib.Omega.{arith}
 use mathlib.Core.Bool.{Bool, true, false, not, cond}
 use mathlib.Core.List.{List, [], _∷_, _++_}
 use mathlib.Core.Logic.{_⊎_, inl, inr}
@@ -24,7 +23,7 @@ use Rattle.locks.specs.Serve.{Outcome, change, answered, accepted, refused, ser
 use Rattle.locks.specs.Events.{eventsSize}
 use Rattle.locks.proofs.Served.{serve-sound}
 use Rattle.gilboreth.specs.Messages.{entryRules, outcome}
-use Rattle.promises.specs.Demand1.{keeps, FirstHit, Judged, numbersOf}
+use Rattle.promises.specs.Demand1.{keeps, Judged, numbersOf}
 use Rattle.promises.proofs.Sessions.{bytes-sound}
 
 -- The first hit is judged so

@@ -1,15 +1,11 @@
 -- Noted pieces and accepted writes are pieces of the steps; and over a byte under noted pieces one of them is the greatest.
-use Prim.Native.Nat.{ℕ, _+_, _-_, _≤_, _<_, max}
+use Prim.Native.Nat.{ℕ, _+_, _≤_, _<_}
 use native.Mathlib.Omega.{arith}
-use mathlib.Core.Path.{_≡_, refl, sym, _∙_, ap, subst}
+use mathlib.Core.Path.{_≡_, refl, sym, subst}
 use mathlib.Core.Logic.{_⊎_, inl, inr, ⊎-elim}
 use mathlib.Core.Bool.{Bool, true, false, cond, _&&_}
 use mathlib.Core.List.{List, [], _∷_, _++_}
-use lib.ListN.{length, getD}
-use Rattle.common.proofs.Bools.{never}
-use Rattle.common.proofs.Order.{below, same}
-use Rattle.runs.specs.declared.Run.{Run}
-use Rattle.runs.specs.Owner.{owner}
+use Rattle.common.proofs.Order.{below}
 use Rattle.promises.specs.Run.{Piece, ageOf, Covers, Stripe, Step, note, noteCut, write, writeCut, restart, cut, noteOk, writeOk, next, notes, noted, Write, writes, accepted, pieceOf, pieces}
 use Rattle.promises.specs.Demand3.{Among, HasWrite, Greatest}
 use Rattle.promises.proofs.Views.{covered}

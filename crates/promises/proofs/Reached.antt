@@ -3,9 +3,8 @@
 use Prim.Native.Nat.{ℕ, zero, suc, _+_, _≤_}
 use native.Mathlib.Omega.{arith}
 use native.Mathlib.Numerals.{add-one}
-use mathlib.Core.Bool.{true}
 use mathlib.Core.List.{List, [], _∷_, _++_}
-use mathlib.Core.Path.{_≡_, refl, sym, ap, subst, _∙_}
+use mathlib.Core.Path.{_≡_, refl, ap, subst, _∙_}
 use lib.Dec.{T}
 use lib.ListN.{length, replicate, length-replicate, length-append}
 use borrow.Author.Tests.{le-leb, le-ltb}
@@ -14,10 +13,10 @@ use Rattle.common.specs.Refusals.{firstHit}
 use Rattle.table.specs.declared.Lock.{Lock}
 use Rattle.table.specs.Table.{Table, empty, stripeCount, maxRecords}
 use Rattle.table.specs.Sound.{sound, valid, room, agree}
-use Rattle.table.specs.Bytes.{tableOf, soundTableBytes}
+use Rattle.table.specs.Bytes.{soundTableBytes}
 use Rattle.table.proofs.Facts.{Sound, sound→, →sound}
 use Rattle.locks.specs.declared.Message.{Message}
-use Rattle.locks.specs.declared.Message.the-variants.{Request, Acknowledge, Downgrade, Release}
+use Rattle.locks.specs.declared.Message.the-variants.{Request, Acknowledge, Release}
 use Rattle.locks.specs.Refusals.{rules}
 use Rattle.locks.specs.Serve.{Outcome, asking, serve}
 use Rattle.locks.specs.Events.{eventsSize}

@@ -2,15 +2,13 @@
 use Prim.Native.Nat.{ℕ, zero, suc, _+_, _≤_, _<_}
 use native.Mathlib.Omega.{arith}
 use mathlib.Core.Path.{_≡_, refl, ap, _∙_}
-use mathlib.Core.Logic.{_⊎_, ⊎-elim}
+use mathlib.Core.Logic.{⊎-elim}
 use mathlib.Core.List.{List}
-use lib.ListN.{length, getD, replicate}
+use lib.ListN.{length, getD}
 use Rattle.common.specs.Counters.{width}
 use Rattle.common.specs.Tests.{upFrom}
 use Rattle.table.specs.Table.{Table, empty, lastOf}
-use Rattle.table.specs.Bytes.{tableSize, tableOf}
-use Rattle.locks.specs.declared.Message.{Message}
-use Rattle.locks.specs.Settle.{Event}
+use Rattle.table.specs.Bytes.{tableSize}
 use Rattle.locks.specs.Session.{after, events, numbers}
 use Rattle.locks.proofs.Sessions.{session-numbers}
 use Rattle.promises.specs.Run.{Piece, Covers, begin, noted}

@@ -1,16 +1,14 @@
 -- Demand 2: a session on bytes is a session of the rules, call by call, and its table stays sound. The thought: a call's bytes decode to the rules' table.
 use Prim.Native.Nat.{ℕ, _+_, _*_, _≤_}
-use native.Mathlib.Omega.{arith}
-use mathlib.Core.Bool.{Bool, true, false, not, _&&_, cond}
+use mathlib.Core.Bool.{Bool, true, false, _&&_, cond}
 use mathlib.Core.List.{List, [], _∷_, _++_, map}
 use mathlib.Core.Path.{_≡_, refl, sym, ap, ap₂, subst, _∙_}
 use lib.Dec.{T, eqb}
-use lib.ListN.{length, getD, drop, replicate, length-replicate}
+use lib.ListN.{length, drop, replicate, length-replicate}
 use borrow.Author.Tests.{le-ltb, eq-eqb}
 use Rattle.common.specs.Counters.{width}
 use Rattle.common.specs.Tests.{zeros}
 use Rattle.common.proofs.Bools.{never, and-left, and-right, true-is}
-use Rattle.xdr.specs.Be.{be}
 use Rattle.xdr.specs.Layout.{fields}
 use Rattle.xdr.specs.Array.{array}
 use Rattle.xdr.specs.Tab.{tab}

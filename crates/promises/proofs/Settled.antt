@@ -2,15 +2,15 @@
 -- turns are grants alone, and the last of n + 1 turns adds the grant at place n or nothing.
 use Prim.Native.Nat.{ℕ, zero, suc, _≤_, _<_}
 use native.Mathlib.Omega.{arith}
-use mathlib.Core.Bool.{Bool, true, false, not, _&&_, cond}
-use mathlib.Core.List.{List, [], _∷_, _++_, map}
+use mathlib.Core.Bool.{Bool, true, false, not, cond}
+use mathlib.Core.List.{List, [], _∷_}
 use mathlib.Core.Logic.{_⊎_, inl, inr}
-use mathlib.Core.Path.{_≡_, refl, sym, ap, subst, _∙_}
+use mathlib.Core.Path.{_≡_, sym, ap, subst, _∙_}
 use lib.Dec.{T, eqb, eqb→eq}
 use lib.ListN.{length}
 use Rattle.common.specs.Ranges.{eof}
-use Rattle.common.specs.Tests.{all, any, keep, implies}
-use Rattle.common.proofs.Bools.{and-l, and-r, and-i, imp-e, by-cond, cond-true}
+use Rattle.common.specs.Tests.{any, keep}
+use Rattle.common.proofs.Bools.{and-l, and-r, and-i, imp-e, cond-true}
 use Rattle.common.proofs.Order.{eq→eqb}
 use Rattle.modes.specs.Codes.{granted, asked, canceling}
 use Rattle.table.specs.declared.Lock.{Lock}
@@ -19,15 +19,14 @@ use Rattle.table.specs.Sound.{sound}
 use Rattle.table.proofs.Facts.{Sound, sound→}
 use Rattle.locks.specs.declared.Message.{Message}
 use Rattle.locks.specs.Conflicts.{obstacle, hurries}
-use Rattle.locks.specs.Settle.{Event, Settled, grantEvent, revocation, inState, given, nextNumber, widest, grant, free, granting, turn, turns, presses, wanted, revocations, settle}
+use Rattle.locks.specs.Settle.{Event, grantEvent, revocation, inState, given, nextNumber, widest, grant, free, granting, turn, turns, presses, wanted, revocations, settle}
 use Rattle.locks.specs.Refusals.{refusal}
 use Rattle.locks.specs.Serve.{Outcome, change, answered, accepted, refused, serve}
 use Rattle.locks.proofs.Served.{change-sound}
-use Rattle.locks.proofs.Walk.{Walked}
 use Rattle.locks.proofs.Events.{Spared, spare}
-use Rattle.locks.proofs.Waits.{stuck, Calm, serve-calm}
-use Rattle.locks.proofs.Greatest.{Greatest, turn-greatest}
-use Rattle.promises.specs.Demand2.{In, Widest, settling, Fair}
+use Rattle.locks.proofs.Waits.{stuck, serve-calm}
+use Rattle.locks.proofs.Greatest.{turn-greatest}
+use Rattle.promises.specs.Demand2.{In, Widest, Fair}
 use Rattle.promises.proofs.Members.{in-all, in-split, in-right, in-keep, keep-in, in-map, map-in}
 
 -- a grant in state 1 was hurried by no request

@@ -8,9 +8,9 @@ use lib.ListN.{length}
 use Rattle.common.specs.Counters.{width, highest}
 use Rattle.common.specs.Ranges.{eof}
 use Rattle.runs.specs.declared.Run.{Run}
-use Rattle.runs.specs.Owner.{run, over, owner}
+use Rattle.runs.specs.Owner.{run, owner}
 use Rattle.runs.specs.Map.{mapOf, raise}
-use Rattle.runs.specs.Sound.{maxRuns, allValid, soundMap, sane}
+use Rattle.runs.specs.Sound.{maxRuns, allValid, soundMap}
 use Rattle.runs.proofs.Age.{pos-sane}
 use Rattle.runs.proofs.Over.{over-is}
 use Rattle.runs.proofs.Canon.{Next, Canon, none, next}

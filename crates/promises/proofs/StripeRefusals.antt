@@ -1,5 +1,5 @@
 -- Demand 1 for note, write and restart: an answer is 0 or stands in the list, a refused call changes no lent byte, and no refusal is dead.
-use Prim.Native.Nat.{ℕ, zero, suc, _+_, _*_, _≤_, _<_}
+use Prim.Native.Nat.{ℕ, zero, suc, _≤_}
 use native.Mathlib.Omega.{arith}
 use mathlib.Core.Bool.{Bool, true, cond}
 use mathlib.Core.List.{List, [], _∷_, map}

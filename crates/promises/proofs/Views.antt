@@ -4,7 +4,7 @@ use native.Mathlib.Omega.{arith}
 use mathlib.Core.Path.{_≡_, refl, sym, _∙_, ap, subst}
 use mathlib.Core.Logic.{_⊎_, inl, inr, ⊎-elim}
 use mathlib.Core.Bool.{Bool, true, false, cond, _&&_}
-use mathlib.Core.List.{List, [], _∷_, _++_}
+use mathlib.Core.List.{List, [], _∷_}
 use lib.ListN.{length, getD}
 use lib.Dec.{eqb, leb, ltb}
 use borrow.Author.Tests.{eqb-true, le-leb, lt-leb, lt-ltb, le-ltb}
@@ -19,7 +19,6 @@ use Rattle.runs.specs.Bytes.{runsOf, soundMapBytes}
 use Rattle.runs.proofs.Over.{over-in, over-before, over-after, owner-snoc}
 use Rattle.runs.proofs.Draw.{map-owner}
 use Rattle.stripe.specs.Stripe.{written}
-use Rattle.gilboreth.specs.Note.{noteAnswer, noteLog}
 use Rattle.gilboreth.specs.Write.{writeAnswer, writeImage}
 use Rattle.gilboreth.specs.Restart.{restartAnswer, restartMap}
 use Rattle.stripe.proofs.Accepted.{WriteFacts, write-facts}

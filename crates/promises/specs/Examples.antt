@@ -18,7 +18,7 @@ use Rattle.runs.specs.Map.{mapOf, end, draw, put, join}
 use Rattle.runs.specs.Sound.{soundMap, soundLog, sane, apart}
 use Rattle.stripe.specs.Refusals.{behind}
 use Rattle.stripe.specs.Stripe as s
-use Rattle.stripe.specs.Stripe.{Stripe, note, write, restart, stored}
+use Rattle.stripe.specs.Stripe.{Stripe, note, write, stored}
 
 -- The lock table: messages sent to the empty table, and the lines that answer them, as numbers. Of each message refusal and handle; of each
 -- event kind, handle, client, stripe, mode, state, number, first, last
