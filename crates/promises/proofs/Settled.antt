@@ -19,7 +19,7 @@ use Rattle.table.specs.Sound.{sound}
 use Rattle.table.proofs.Facts.{Sound, sound→}
 use Rattle.locks.specs.declared.Message.{Message}
 use Rattle.locks.specs.Conflicts.{obstacle, hurries}
-use Rattle.locks.specs.Settle.{Event, grantEvent, revocation, inState, given, nextNumber, widest, grant, free, granting, turn, turns, presses, wanted, revocations, settle}
+use Rattle.locks.specs.Settle.{Event, Settled, grantEvent, revocation, inState, given, nextNumber, widest, grant, free, granting, turn, turns, presses, wanted, revocations, settle}
 use Rattle.locks.specs.Refusals.{refusal}
 use Rattle.locks.specs.Serve.{Outcome, change, answered, accepted, refused, serve}
 use Rattle.locks.proofs.Served.{change-sound}
@@ -39,22 +39,26 @@ not-hurried lasts rs w = go (any (hurries w) rs)
     go false k = tt
 
 module _ (U : Table) (S : Sound (U .issued) (U .lasts) (U .locks)) where
+  -- when all turns are over
+  abbrev all-over : Settled
+  all-over = turns (length (U .locks)) U
+
+  abbrev rs : List Lock
+  rs = all-over .table .locks
+
   -- the events of the turns are grants
-  grants : (e : Event) → In e (turns (length (U .locks)) U .events) → e .kind ≡ 1
+  grants : (e : Event) → In e (all-over .events) → e .kind ≡ 1
   grants e h =
-      let P : Spared (turns (length (U .locks)) U .table .lasts) (turns (length (U .locks)) U .table .locks) [] (turns (length (U .locks)) U .events) = spare U S .law in
+      let P : Spared (all-over .table .lasts) rs [] (all-over .events) = spare U S .law in
       let k = in-map grantEvent e (P .grants) (subst (λ (l : List Event). In e l) (P .are) h) in
       ap (λ (x : Event). x .kind) (k .2)
 
   pub is-revoked : (e : Event) → In e (settle U .events) → e .kind ≡ 2
-      → (r : Lock) × In r (turns (length (U .locks)) U .table .locks) × (e ≡ revocation (inState asked r)) × (r .state ≡ granted) × T (any (presses r) (turns (length (U .locks)) U .table .locks))
+      → (r : Lock) × In r rs × (e ≡ revocation (inState asked r)) × (r .state ≡ granted) × T (any (presses r) rs)
   unfolding settle
-  is-revoked e h two = go (in-split e (turns (length (U .locks)) U .events) (revocations (turns (length (U .locks)) U .table .locks)) h)
+  is-revoked e h two = go (in-split e (all-over .events) (revocations rs) h)
     where
-      rs : List Lock
-      rs = turns (length (U .locks)) U .table .locks
-
-      go : In e (turns (length (U .locks)) U .events) ⊎ In e (revocations rs) → (r : Lock) × In r rs × (e ≡ revocation (inState asked r)) × (r .state ≡ granted) × T (any (presses r) rs)
+      go : In e (all-over .events) ⊎ In e (revocations rs) → (r : Lock) × In r rs × (e ≡ revocation (inState asked r)) × (r .state ≡ granted) × T (any (presses r) rs)
       go (inl k) = absurd (let z : ⊥ = (let g = grants e k in omega arith) in z)
       go (inr k) =
           let q = in-map (λ r. revocation (inState asked r)) e (keep (wanted rs) rs) k in
@@ -62,67 +66,52 @@ module _ (U : Table) (S : Sound (U .issued) (U .lasts) (U .locks)) where
           let w = in-keep (wanted rs) r rs (q .1) in
           (r, w .0, q .2, eqb→eq (r .state) granted (and-l (eqb (r .state) granted) (any (presses r) rs) (w .1)), and-r (eqb (r .state) granted) (any (presses r) rs) (w .1))
 
-  pub each-revoked : (r : Lock) → In r (turns (length (U .locks)) U .table .locks) → r .state ≡ granted → T (any (presses r) (turns (length (U .locks)) U .table .locks)) → In (revocation (inState asked r)) (settle U .events)
+  pub each-revoked : (r : Lock) → In r rs → r .state ≡ granted → T (any (presses r) rs) → In (revocation (inState asked r)) (settle U .events)
   unfolding settle
   each-revoked r h s t =
-      in-right (revocation (inState asked r)) (turns (length (U .locks)) U .events) (revocations rs)
+      in-right (revocation (inState asked r)) (all-over .events) (revocations rs)
       (map-in (λ r. revocation (inState asked r)) r (keep (wanted rs) rs) (keep-in (wanted rs) r rs h (and-i (eqb (r .state) granted) (any (presses r) rs) (eq→eqb (r .state) granted s) t)))
-    where
-      rs : List Lock
-      rs = turns (length (U .locks)) U .table .locks
 
-  -- e is the grant at place n, the greatest at its turn
-  abbrev Wide : Event → ℕ → Type 0
-  Wide e n =
-      (e ≡ grantEvent (grant (turns n U .table .lasts) (turns n U .table .locks) (nth (turns n U .table) n)))
-      × Widest (nth (turns n U .table) n) (turns n U .table .locks) (e .lock .last)
+  -- at the turn of place n: the records, the one whose turn it is, and what it becomes if it is granted
+  abbrev present : ℕ → List Lock
+  present n = turns n U .table .locks
 
-  wide-here : (n : ℕ) (e : Event) → n < length (U .locks) → T (free (turns n U .table .locks) (nth (turns n U .table) n))
-      → e ≡ grantEvent (grant (turns n U .table .lasts) (turns n U .table .locks) (nth (turns n U .table) n)) → e .lock .state ≡ granted → Wide e n
+  abbrev next : ℕ → Lock
+  next n = nth (turns n U .table) n
+
+  abbrev becomes : ℕ → Event
+  becomes n = grantEvent (grant (turns n U .table .lasts) (present n) (next n))
+
+  -- e is the grant at some place, the greatest at its turn
+  abbrev Wide : Event → Type 0
+  Wide e = (n : ℕ) × (n < length (U .locks)) × (e ≡ becomes n) × Widest (next n) (present n) (e .lock .last)
+
+  wide-here : (n : ℕ) (e : Event) → n < length (U .locks) → T (free (present n) (next n)) → e ≡ becomes n → e .lock .state ≡ granted → Wide e
   wide-here n e h f q s =
-      let G = turn-greatest U S n h f unhurried in
-      (q, subst (λ (l : ℕ). Widest w rs l) (sym (ap (λ (x : Event). x .lock .last) q)) (record { reaches = G .reaches; ends = G .within-eof; clear = G .clear-of-all; greatest = G .no-further }))
-    where
-      rs : List Lock
-      rs = turns n U .table .locks
+      let G = turn-greatest U S n h f (not-hurried (turns n U .table .lasts) (present n) (next n) (sym (ap (λ (x : Event). x .lock .state) q) ∙ s)) in
+      let W : Widest (next n) (present n) (becomes n .lock .last) = record { reaches = G .reaches; ends = G .within-eof; clear = G .clear-of-all; greatest = G .no-further } in
+      (n, h, q, subst (λ (l : ℕ). Widest (next n) (present n) l) (sym (ap (λ (x : Event). x .lock .last) q)) W)
 
-      w : Lock
-      w = nth (turns n U .table) n
-
-      state : grant (turns n U .table .lasts) rs w .state ≡ granted
-      state = sym (ap (λ (x : Event). x .lock .state) q) ∙ s
-
-      unhurried : T (not (any (hurries w) rs))
-      unhurried = not-hurried (turns n U .table .lasts) rs w state
-
-  wide-turns : (n : ℕ) (e : Event) → n ≤ length (U .locks) → In e (turns n U .events) → e .lock .state ≡ granted → (k : ℕ) × (k < length (U .locks)) × Wide e k
+  wide-turns : (n : ℕ) (e : Event) → n ≤ length (U .locks) → In e (turns n U .events) → e .lock .state ≡ granted → Wide e
   unfolding turns turn
   wide-turns zero e h i s = absurd i
-  wide-turns (suc n) e h i s = go (free rs w) (λ f. f) (λ j. wide-turns n e (omega arith) j s) i
+  wide-turns (suc n) e h i s = go (free (present n) (next n)) (λ f. f) (λ j. wide-turns n e (omega arith) j s) i
     where
-      rs : List Lock
-      rs = turns n U .table .locks
-
-      w : Lock
-      w = nth (turns n U .table) n
-
-      last-one : T (free rs w) → (In e (turns n U .events) → (k : ℕ) × (k < length (U .locks)) × Wide e k) → In e (turns n U .events) ⊎ In e (grantEvent (grant (turns n U .table .lasts) rs w) ∷ []) → (k : ℕ) × (k < length (U .locks)) × Wide e k
+      last-one : T (free (present n) (next n)) → (In e (turns n U .events) → Wide e) → In e (turns n U .events) ⊎ In e (becomes n ∷ []) → Wide e
       last-one f r (inl j) = r j
-      last-one f r (inr (inl q)) = (n, h, wide-here n e h f q s)
+      last-one f r (inr (inl q)) = wide-here n e h f q s
       last-one f r (inr (inr z)) = absurd z
 
-      go : (b : Bool) → (T b → T (free rs w)) → (In e (turns n U .events) → (k : ℕ) × (k < length (U .locks)) × Wide e k) → In e ((cond b (granting n (turns n U) w (grant (turns n U .table .lasts) rs w)) (turns n U)) .events) → (k : ℕ) × (k < length (U .locks)) × Wide e k
-      go true f r j = last-one (f tt) r (in-split e (turns n U .events) (grantEvent (grant (turns n U .table .lasts) rs w) ∷ []) j)
+      go : (b : Bool) → (T b → T (free (present n) (next n))) → (In e (turns n U .events) → Wide e)
+          → In e ((cond b (granting n (turns n U) (next n) (becomes n .lock)) (turns n U)) .events) → Wide e
+      go true f r j = last-one (f tt) r (in-split e (turns n U .events) (becomes n ∷ []) j)
       go false f r j = r j
 
-  pub is-widened : (e : Event) → In e (settle U .events) → e .kind ≡ 1 → e .lock .state ≡ granted → (k : ℕ) × (k < length (U .locks)) × Wide e k
+  pub is-widened : (e : Event) → In e (settle U .events) → e .kind ≡ 1 → e .lock .state ≡ granted → Wide e
   unfolding settle
-  is-widened e h one s = go (in-split e (turns (length (U .locks)) U .events) (revocations rs) h)
+  is-widened e h one s = go (in-split e (all-over .events) (revocations rs) h)
     where
-      rs : List Lock
-      rs = turns (length (U .locks)) U .table .locks
-
-      go : In e (turns (length (U .locks)) U .events) ⊎ In e (revocations rs) → (k : ℕ) × (k < length (U .locks)) × Wide e k
+      go : In e (all-over .events) ⊎ In e (revocations rs) → Wide e
       go (inl k) = wide-turns (length (U .locks)) e (omega arith) k s
       go (inr k) =
           let q = in-map (λ r. revocation (inState asked r)) e (keep (wanted rs) rs) k in
@@ -147,5 +136,5 @@ module _ (X : Table) (m : Message) (q : T (sound X)) (z : T (eqb (refusal X m) 0
         imp-e (waits w) (any (obstacle w) (serve X m .table .locks)) (in-all (stuck (serve X m .table .locks)) w (serve X m .table .locks) h (serve-calm X m q z .waiters)) t;
     revoked = λ e h k. is-revoked (change X m) good e (own e h) k;
     each = λ r h s t. subst (λ (o : Outcome). In (revocation (inState asked r)) (o .events)) (sym is) (each-revoked (change X m) good r h s t);
-    widened = λ e h k s. let W = is-widened (change X m) good e (own e h) k s in (W .0, W .1, W .2 .0, W .2 .1);
+    widened = λ e h k s. is-widened (change X m) good e (own e h) k s;
   }
