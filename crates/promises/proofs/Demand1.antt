@@ -1,22 +1,28 @@
--- Demand 1, of all entries together.
+-- Demand 1, of all entries together, with an input for each number of each entry's list.
 use Prim.Native.Nat.{ℕ}
 use mathlib.Core.List.{List, [], _∷_, map}
+use mathlib.Core.Path.{_≡_, refl}
 use lib.ListN.{replicate}
 use Rattle.common.specs.Counters.{width}
+use Rattle.common.specs.Refusals.{firstHit}
 use Rattle.xdr.specs.Be.{Bytes}
 use Rattle.xdr.proofs.Arrays.{put-array-bytes}
-use Rattle.table.specs.Table.{empty, maxRecords}
+use Rattle.table.specs.Table.{Table, empty, maxRecords}
 use Rattle.runs.specs.declared.Run.{Run}
 use Rattle.runs.specs.Sound.{maxEntries}
 use Rattle.runs.specs.Bytes.{runLayout, runFields, mapSize, logSize, bytesOf, mapBytes}
-use Rattle.locks.specs.declared.Message.the-variants.{Request, Acknowledge, Release}
+use Rattle.locks.specs.declared.Message.{Message}
+use Rattle.locks.specs.declared.Message.the-variants.{Request, Acknowledge, Downgrade, Release}
+use Rattle.locks.specs.Refusals.{rules}
 use Rattle.locks.specs.Events.{eventsSize}
-use Rattle.promises.specs.Demand1.{message, note, write, Demand1}
+use Rattle.gilboreth.specs.Messages.{outcome}
+use Rattle.promises.specs.Demand1.{Entry, request, acknowledge, downgrade, release, note, write, restart, numbers, entryOf}
+use Rattle.promises.specs.Demand1.{Input, message, noting, writing, restarting, at, gets, fields, fits, Lent, Reached, Demand1}
 use Rattle.promises.proofs.Encoding.{blank-bytes, tableBytes, table-bytes}
 use Rattle.promises.proofs.Determined.{of-message, of-note, of-write, of-restart}
 use Rattle.promises.proofs.Spaced.{spaced}
-use Rattle.promises.proofs.Reached.{buffer, spent, queued, single, reaches-1, reaches-2, reaches-3, reaches-4, reaches-5, reaches-6, reaches-7, reaches-8, reaches-9, reaches-10, reaches-11}
-use Rattle.promises.proofs.StripeRefusals.{full, one, map0, log0, reaches-12, reaches-13, reaches-14, reaches-15, reaches-16, reaches-17, reaches-18}
+use Rattle.promises.proofs.Reached.{buffer, no-events, another-length, on-empty, spent, none-left, queued, no-room, single, on-single}
+use Rattle.promises.proofs.StripeReached.{map0, log0, one, logged, note-12, note-13, note-14, note-15, note-16, note-17, write-12, write-14, write-15, write-18, restart-12, restart-13, restart-16}
 
 -- one input after the other
 infixr 5 _also_
@@ -33,37 +39,90 @@ map-bytes : (rs : List Run) → Bytes (mapBytes width rs)
 unfolding mapBytes
 map-bytes rs = runs-bytes (mapSize width) rs
 
-full-bytes : (n : ℕ) → Bytes (full n)
-unfolding full
-full-bytes n = runs-bytes (logSize width) (replicate n one)
+logged-bytes : (es : List Run) → Bytes (logged es)
+unfolding logged
+logged-bytes es = runs-bytes (logSize width) es
 
-events-bytes : Bytes buffer
-events-bytes = blank-bytes (eventsSize width)
+-- A message on no table, on the empty table, on a table
+abbrev Reach : Entry → ℕ → Type 0
+Reach e n = (i : Input) × (at i ≡ e) × Lent i × (gets i ≡ n)
+
+module _ (m : Message) (f : fits (fields m)) where
+  short : Reach (entryOf m) 1
+  short = (message m [] [], refl, (f, no-bytes, no-bytes), no-events m)
+
+  absent : Reach (entryOf m) 2
+  absent = (message m [] buffer, refl, (f, no-bytes, blank-bytes (eventsSize width)), another-length m)
+
+  on : (X : Table) (n : ℕ) → outcome m (tableBytes X) buffer .refusal ≡ n → Reach (entryOf m) n
+  on X n e = (message m (tableBytes X) buffer, refl, (f, table-bytes X, blank-bytes (eventsSize width)), e)
+
+  first : (n : ℕ) → firstHit (rules empty m) ≡ n → Reach (entryOf m) n
+  first n e = on empty n (on-empty m n e)
+
+  lone : (n : ℕ) → firstHit (rules single m) ≡ n → Reach (entryOf m) n
+  lone n e = on single n (on-single m n e)
+
+map0-bytes : Bytes map0
+map0-bytes = blank-bytes (mapSize width)
+
+log0-bytes : Bytes log0
+log0-bytes = blank-bytes (logSize width)
+
+reached : (e : Entry) → Reached e (numbers e)
+unfolding rules
+reached request =
+    short (Request 0 0 1 0 0) tt
+    also absent (Request 0 0 1 0 0) tt
+    also first (Request 64 0 1 0 0) tt 3 refl
+    also first (Request 0 16 1 0 0) tt 4 refl
+    also first (Request 0 0 5 0 0) tt 5 refl
+    also first (Request 0 0 1 5 4) tt 6 refl
+    also on (Request 0 0 1 0 0) tt spent 7 none-left
+    also on (Request 0 0 1 0 0) tt (queued maxRecords) 8 no-room
+    also tt
+reached acknowledge =
+    short (Acknowledge 0 1) tt
+    also absent (Acknowledge 0 1) tt
+    also first (Acknowledge 64 1) tt 3 refl
+    also first (Acknowledge 0 1) tt 9 refl
+    also lone (Acknowledge 1 1) tt 10 refl
+    also lone (Acknowledge 0 1) tt 11 refl
+    also tt
+reached downgrade =
+    short (Downgrade 0 1) tt
+    also absent (Downgrade 0 1) tt
+    also first (Downgrade 64 1) tt 3 refl
+    also first (Downgrade 0 1) tt 9 refl
+    also lone (Downgrade 1 1) tt 10 refl
+    also lone (Downgrade 0 1) tt 11 refl
+    also tt
+reached release =
+    short (Release 0 1) tt
+    also absent (Release 0 1) tt
+    also first (Release 64 1) tt 3 refl
+    also first (Release 0 1) tt 9 refl
+    also lone (Release 1 1) tt 10 refl
+    also tt
+reached note =
+    (noting [] [] 0 1 1 1, refl, (tt, no-bytes, no-bytes), note-12)
+    also (noting map0 [] 0 1 1 1, refl, (tt, map0-bytes, no-bytes), note-13)
+    also (noting map0 log0 0 0 1 1, refl, (tt, map0-bytes, log0-bytes), note-14)
+    also (noting map0 log0 0 1 0 1, refl, (tt, map0-bytes, log0-bytes), note-15)
+    also (noting (mapBytes width (spaced 1 1024)) log0 2049 1 1 2050, refl, (tt, map-bytes (spaced 1 1024), log0-bytes), note-16)
+    also (noting map0 (logged (replicate maxEntries one)) 0 1 1 1, refl, (tt, map0-bytes, logged-bytes (replicate maxEntries one)), note-17)
+    also tt
+reached write =
+    (writing [] 0 (0 ∷ []) 1 (0 ∷ []), refl, (tt, no-bytes, blank-bytes 1, blank-bytes 1), write-12)
+    also (writing map0 0 [] 1 (0 ∷ []), refl, (tt, map0-bytes, no-bytes, blank-bytes 1), write-14)
+    also (writing map0 0 (0 ∷ []) 0 (0 ∷ []), refl, (tt, map0-bytes, blank-bytes 1, blank-bytes 1), write-15)
+    also (writing map0 0 (0 ∷ []) 1 (0 ∷ []), refl, (tt, map0-bytes, blank-bytes 1, blank-bytes 1), write-18)
+    also tt
+reached restart =
+    (restarting [] [], refl, (no-bytes, no-bytes), restart-12)
+    also (restarting map0 [], refl, (map0-bytes, no-bytes), restart-13)
+    also (restarting map0 (logged (spaced 1 1025)), refl, (map0-bytes, logged-bytes (spaced 1 1025)), restart-16)
+    also tt
 
 pub demand1 : Demand1
-demand1 = record {
-  messages = of-message;
-  notes = of-note;
-  writes = of-write;
-  restarts = of-restart;
-  reached =
-      (message (Request 0 0 1 0 0) [] [], (tt, no-bytes, no-bytes), reaches-1)
-      also (message (Request 0 0 1 0 0) [] buffer, (tt, no-bytes, events-bytes), reaches-2)
-      also (message (Request 64 0 1 0 0) (tableBytes empty) buffer, (tt, table-bytes empty, events-bytes), reaches-3)
-      also (message (Request 0 16 1 0 0) (tableBytes empty) buffer, (tt, table-bytes empty, events-bytes), reaches-4)
-      also (message (Request 0 0 5 0 0) (tableBytes empty) buffer, (tt, table-bytes empty, events-bytes), reaches-5)
-      also (message (Request 0 0 1 5 4) (tableBytes empty) buffer, (tt, table-bytes empty, events-bytes), reaches-6)
-      also (message (Request 0 0 1 0 0) (tableBytes spent) buffer, (tt, table-bytes spent, events-bytes), reaches-7)
-      also (message (Request 0 0 1 0 0) (tableBytes (queued maxRecords)) buffer, (tt, table-bytes (queued maxRecords), events-bytes), reaches-8)
-      also (message (Release 0 1) (tableBytes empty) buffer, (tt, table-bytes empty, events-bytes), reaches-9)
-      also (message (Release 1 1) (tableBytes single) buffer, (tt, table-bytes single, events-bytes), reaches-10)
-      also (message (Acknowledge 0 1) (tableBytes single) buffer, (tt, table-bytes single, events-bytes), reaches-11)
-      also (note [] [] 0 1 1 1, (tt, no-bytes, no-bytes), reaches-12)
-      also (note map0 [] 0 1 1 1, (tt, blank-bytes (mapSize width), no-bytes), reaches-13)
-      also (note map0 log0 0 0 1 1, (tt, blank-bytes (mapSize width), blank-bytes (logSize width)), reaches-14)
-      also (note map0 log0 0 1 0 1, (tt, blank-bytes (mapSize width), blank-bytes (logSize width)), reaches-15)
-      also (note (mapBytes width (spaced 1 1024)) log0 2049 1 1 2050, (tt, map-bytes (spaced 1 1024), blank-bytes (logSize width)), reaches-16)
-      also (note map0 (full maxEntries) 0 1 1 1, (tt, blank-bytes (mapSize width), full-bytes maxEntries), reaches-17)
-      also (write map0 0 (0 ∷ []) 1 (0 ∷ []), (tt, blank-bytes (mapSize width), blank-bytes 1, blank-bytes 1), reaches-18)
-      also tt;
-}
+demand1 = record { messages = of-message; notes = of-note; writes = of-write; restarts = of-restart; reached = reached }

@@ -5,6 +5,7 @@ pub mod Pieces
 pub mod Demand3
 pub mod Spaced
 pub mod StripeRefusals
+pub mod StripeReached
 pub mod Sessions
 pub mod Seam
 pub mod Encoding

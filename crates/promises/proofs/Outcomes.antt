@@ -23,7 +23,7 @@ use Rattle.locks.specs.Serve.{Outcome, change, answered, accepted, refused, ser
 use Rattle.locks.specs.Events.{eventsSize}
 use Rattle.locks.proofs.Served.{serve-sound}
 use Rattle.gilboreth.specs.Messages.{entryRules, outcome}
-use Rattle.promises.specs.Demand1.{keeps, Judged, numbersOf}
+use Rattle.promises.specs.Demand1.{keeps, Judged, numbers, entryOf}
 use Rattle.promises.proofs.Sessions.{bytes-sound}
 
 -- The first hit is judged so
@@ -102,7 +102,7 @@ module _ (m : Message) (t b : List ℕ) where
       go false true e h = serve-sound X m (bytes-sound t e)
 
 -- From the list; of a release 10 asks all that 11 does
-listed-in : (m : Message) (X : Table) (a b : Bool) → T (any (eqb (firstHit (rule 1 a ∷ rule 2 b ∷ rules X m))) (0 ∷ numbersOf m))
+listed-in : (m : Message) (X : Table) (a b : Bool) → T (any (eqb (firstHit (rule 1 a ∷ rule 2 b ∷ rules X m))) (0 ∷ numbers (entryOf m)))
 unfolding rules
 listed-in (Request c s k f l) X a b = listed (rule 1 a ∷ rule 2 b ∷ rules X (Request c s k f l))
 listed-in (Acknowledge c h) X a b = listed (rule 1 a ∷ rule 2 b ∷ rules X (Acknowledge c h))
@@ -117,5 +117,5 @@ listed-in (Release c h) X a b = go a b (ltb maxClient c) (not (any (λ r. eqb (h
     go false false false false true = tt
     go false false false false false = tt
 
-pub outcome-listed : (m : Message) (t b : List ℕ) → T (any (eqb (outcome m t b .refusal)) (0 ∷ numbersOf m))
+pub outcome-listed : (m : Message) (t b : List ℕ) → T (any (eqb (outcome m t b .refusal)) (0 ∷ numbers (entryOf m)))
 outcome-listed m t b = rw (outcome-hit m t b) (listed-in m (tableOf width t) (ltb (length b) (eventsSize width)) (not (soundTableBytes t)))

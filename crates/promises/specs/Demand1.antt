@@ -9,7 +9,7 @@ use lib.Dec.{T, eqb, ltb}
 use lib.ListN.{length}
 use Rattle.common.specs.Counters.{width}
 use Rattle.common.specs.Refusals.{Rule}
-use Rattle.common.specs.Tests.{all, any, upFrom}
+use Rattle.common.specs.Tests.{all, any}
 use Rattle.xdr.specs.Be.{Bytes}
 use Rattle.table.specs.Bytes.{tableOf}
 use Rattle.locks.specs.declared.Message.{Message}
@@ -74,12 +74,31 @@ pub record Restarted : Type 0 where
   pub answer : ℕ
   pub map : List ℕ
 
--- "request 1 to 8; the others 1, 2, 3, 9, 10, 11". A release has nothing that 11 could say
-abbrev pub numbersOf : Message → List ℕ
-numbersOf (Request c s m f l) = 1 ∷ 2 ∷ 3 ∷ 4 ∷ 5 ∷ 6 ∷ 7 ∷ 8 ∷ []
-numbersOf (Acknowledge c h) = 1 ∷ 2 ∷ 3 ∷ 9 ∷ 10 ∷ 11 ∷ []
-numbersOf (Downgrade c h) = 1 ∷ 2 ∷ 3 ∷ 9 ∷ 10 ∷ 11 ∷ []
-numbersOf (Release c h) = 1 ∷ 2 ∷ 3 ∷ 9 ∷ 10 ∷ []
+-- "Order, first hit answers: request 1 to 8; the others 1, 2, 3, 9, 10, 11; note 12 to 17; write 12, 14, 15, 18; restart 12 (length only), 13, 16."
+-- A release has nothing that 11 could say
+pub data Entry : Type 0 where
+  request : Entry
+  acknowledge : Entry
+  downgrade : Entry
+  release : Entry
+  note : Entry
+  write : Entry
+  restart : Entry
+
+abbrev pub numbers : Entry → List ℕ
+numbers request = 1 ∷ 2 ∷ 3 ∷ 4 ∷ 5 ∷ 6 ∷ 7 ∷ 8 ∷ []
+numbers acknowledge = 1 ∷ 2 ∷ 3 ∷ 9 ∷ 10 ∷ 11 ∷ []
+numbers downgrade = 1 ∷ 2 ∷ 3 ∷ 9 ∷ 10 ∷ 11 ∷ []
+numbers release = 1 ∷ 2 ∷ 3 ∷ 9 ∷ 10 ∷ []
+numbers note = 12 ∷ 13 ∷ 14 ∷ 15 ∷ 16 ∷ 17 ∷ []
+numbers write = 12 ∷ 14 ∷ 15 ∷ 18 ∷ []
+numbers restart = 12 ∷ 13 ∷ 16 ∷ []
+
+abbrev pub entryOf : Message → Entry
+entryOf (Request c s m f l) = request
+entryOf (Acknowledge c h) = acknowledge
+entryOf (Downgrade c h) = downgrade
+entryOf (Release c h) = release
 
 -- The four messages. A slice of bytes holds bytes: of the table that the call leaves this is said openly
 abbrev pub OfMessage : Message → List ℕ → List ℕ → Type 0
@@ -87,52 +106,52 @@ OfMessage m table events =
     Promised {R = Served}
     (λ x. Leaves (outcome m table events) table events (x .answer) (x .table) (x .events) × Bytes (x .table))
     (λ x. x .answer .refusal)
-    (entryRules table events ++ rules (tableOf width table) m) (numbersOf m)
+    (entryRules table events ++ rules (tableOf width table) m) (numbers (entryOf m))
     (λ n. record { answer = record { refusal = n; handle = 0; events = 0 }; table = table; events = events })
 
--- "note 12 to 17"
+-- Note, write and restart
 abbrev pub OfNote : List ℕ → List ℕ → ℕ → ℕ → ℕ → ℕ → Type 0
 OfNote map log first len number image =
     Promised {R = Noted}
     (λ x. Notes map log first len number image (x .answer) (x .map) (x .log))
     (λ x. x .answer)
-    (noteList map log first len number image) (12 ∷ 13 ∷ 14 ∷ 15 ∷ 16 ∷ 17 ∷ [])
+    (noteList map log first len number image) (numbers note)
     (λ n. record { answer = n; map = map; log = log })
 
--- "write 12, 14, 15, 18"
 abbrev pub OfWrite : List ℕ → ℕ → List ℕ → ℕ → List ℕ → Type 0
 OfWrite map first piece number image =
     Promised {R = Written}
     (λ x. Writes map first piece number image (x .answer) (x .image))
     (λ x. x .answer)
-    (writeRules (soundMapBytes map) (runsOf width map) first (length piece) number (length image)) (12 ∷ 14 ∷ 15 ∷ 18 ∷ [])
+    (writeRules (soundMapBytes map) (runsOf width map) first (length piece) number (length image)) (numbers write)
     (λ n. record { answer = n; image = image })
 
--- "restart 12 (length only), 13, 16"
 abbrev pub OfRestart : List ℕ → List ℕ → Type 0
 OfRestart map log =
     Promised {R = Restarted}
     (λ x. Restarts map log (x .answer) (x .map))
     (λ x. x .answer)
-    (restartRules (eqb (length map) (mapSize width)) (soundLogBytes log) (runsOf width log)) (12 ∷ 13 ∷ 16 ∷ [])
+    (restartRules (eqb (length map) (mapSize width)) (soundLogBytes log) (runsOf width log)) (numbers restart)
     (λ n. record { answer = n; map = map })
 
--- An input of an entry, and the number that it gets
+-- An input of an entry; its numbers and buffers, as they are lent; and the refusal number that it gets
 pub data Input : Type 0 where
   message : Message → (table events : List ℕ) → Input
-  note : (map log : List ℕ) (first len number image : ℕ) → Input
-  write : (map : List ℕ) (first : ℕ) (piece : List ℕ) (number : ℕ) (image : List ℕ) → Input
-  restart : (map log : List ℕ) → Input
+  noting : (map log : List ℕ) (first len number image : ℕ) → Input
+  writing : (map : List ℕ) (first : ℕ) (piece : List ℕ) (number : ℕ) (image : List ℕ) → Input
+  restarting : (map log : List ℕ) → Input
+
+abbrev pub at : Input → Entry
+at (message m t b) = entryOf m
+at (noting m l first len number image) = note
+at (writing m first piece number image) = write
+at (restarting m l) = restart
 
 abbrev pub gets : Input → ℕ
 gets (message m t b) = outcome m t b .refusal
-gets (note m l first len number image) = noteAnswer m l first len number image
-gets (write m first piece number image) = writeAnswer m first (length piece) number (length image)
-gets (restart m l) = restartAnswer m l
-
--- "Numbers arrive as 64-bit values", and buffers hold bytes
-abbrev pub fits : List ℕ → Bool
-fits = all (λ n. ltb n (2 ^ 64))
+gets (noting m l first len number image) = noteAnswer m l first len number image
+gets (writing m first piece number image) = writeAnswer m first (length piece) number (length image)
+gets (restarting m l) = restartAnswer m l
 
 abbrev pub fields : Message → List ℕ
 fields (Request c s m f l) = c ∷ s ∷ m ∷ f ∷ l ∷ []
@@ -140,21 +159,25 @@ fields (Acknowledge c h) = c ∷ h ∷ []
 fields (Downgrade c h) = c ∷ h ∷ []
 fields (Release c h) = c ∷ h ∷ []
 
-abbrev pub Lent : Input → Type 0
-Lent (message m t b) = T (fits (fields m)) × Bytes t × Bytes b
-Lent (note m l first len number image) = T (fits (first ∷ len ∷ number ∷ image ∷ [])) × Bytes m × Bytes l
-Lent (write m first piece number image) = T (fits (first ∷ number ∷ [])) × Bytes m × Bytes piece × Bytes image
-Lent (restart m l) = Bytes m × Bytes l
+-- "Numbers arrive as 64-bit values", and buffers hold bytes
+abbrev pub fits : List ℕ → Type 0
+fits ns = T (all (λ n. ltb n (2 ^ 64)) ns)
 
--- Some input gets each of these numbers
-abbrev pub Reached : List ℕ → Type 0
-Reached [] = Unit {0}
-Reached (n ∷ ns) = ((i : Input) × Lent i × (gets i ≡ n)) × Reached ns
+abbrev pub Lent : Input → Type 0
+Lent (message m t b) = fits (fields m) × Bytes t × Bytes b
+Lent (noting m l first len number image) = fits (first ∷ len ∷ number ∷ image ∷ []) × Bytes m × Bytes l
+Lent (writing m first piece number image) = fits (first ∷ number ∷ []) × Bytes m × Bytes piece × Bytes image
+Lent (restarting m l) = Bytes m × Bytes l
+
+-- An input of the entry e gets each of these numbers
+abbrev pub Reached : Entry → List ℕ → Type 0
+Reached e [] = Unit {0}
+Reached e (n ∷ ns) = ((i : Input) × (at i ≡ e) × Lent i × (gets i ≡ n)) × Reached e ns
 
 pub record Demand1 : Type 0 where
   pub messages : (m : Message) (table events : List ℕ) → Bytes table → OfMessage m table events
   pub notes : (map log : List ℕ) (first len number image : ℕ) → OfNote map log first len number image
   pub writes : (map : List ℕ) (first : ℕ) (piece : List ℕ) (number : ℕ) (image : List ℕ) → OfWrite map first piece number image
   pub restarts : (map log : List ℕ) → OfRestart map log
-  -- "For each number 1 to 18 an input that gets it, so that no refusal is dead."
-  pub reached : Reached (upFrom 1 18)
+  -- "For each number 1 to 18 an input that gets it, so that no refusal is dead": for each number of each entry
+  pub reached : (e : Entry) → Reached e (numbers e)
