@@ -17,7 +17,7 @@ use Rattle.locks.specs.Refusals.{rules}
 use Rattle.locks.specs.Events.{eventsSize}
 use Rattle.gilboreth.specs.Messages.{outcome}
 use Rattle.promises.specs.Demand1.{Entry, request, acknowledge, downgrade, release, note, write, restart, numbers, entryOf}
-use Rattle.promises.specs.Demand1.{Input, message, noting, writing, restarting, at, gets, fields, fits, Lent, Reached, Demand1}
+use Rattle.promises.specs.Demand1.{Input, message, noting, writing, restarting, at, gets, fields, Words, Lent, Reached, Demand1}
 use Rattle.promises.proofs.Encoding.{blank-bytes, tableBytes, table-bytes}
 use Rattle.promises.proofs.Determined.{of-message, of-note, of-write, of-restart}
 use Rattle.promises.proofs.Spaced.{spaced}
@@ -47,7 +47,7 @@ logged-bytes es = runs-bytes (logSize width) es
 abbrev Reach : Entry → ℕ → Type 0
 Reach e n = (i : Input) × (at i ≡ e) × Lent i × (gets i ≡ n)
 
-module _ (m : Message) (f : fits (fields m)) where
+module _ (m : Message) (f : Words (fields m)) where
   short : Reach (entryOf m) 1
   short = (message m [] [], refl, (f, no-bytes, no-bytes), no-events m)
 

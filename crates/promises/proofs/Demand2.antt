@@ -6,7 +6,7 @@ use mathlib.Core.Bool.{Bool, true, not, cond}
 use mathlib.Core.List.{List, [], _∷_, _++_, map}
 use mathlib.Core.Path.{_≡_, refl, sym, ap, subst, _∙_}
 use lib.Dec.{T, eqb}
-use lib.ListN.{length, getD, length-map}
+use lib.ListN.{length, getD, replicate, length-map}
 use borrow.Author.Tests.{eq-eqb}
 use Rattle.common.specs.Counters.{width}
 use Rattle.common.specs.Tests.{all, keep, pairs}
@@ -14,6 +14,7 @@ use Rattle.common.proofs.Bools.{and-l, and-r, and-i, by-cond}
 use Rattle.common.proofs.Listed.{all-keep}
 use Rattle.common.proofs.Order.{eq→eqb}
 use Rattle.common.proofs.Sublist.{sub-all}
+use Rattle.xdr.specs.Be.{Bytes}
 use Rattle.xdr.specs.Layout.{Fit}
 use Rattle.xdr.specs.Array.{array, arraySize, Fits}
 use Rattle.xdr.proofs.Arrays.{array-put, put-array-other}
@@ -36,7 +37,11 @@ use Rattle.locks.proofs.Events.{Spared, spare, Once, serve-once, handles}
 use Rattle.serve.specs.declared.Answer.{Answer}
 use Rattle.serve.specs.Serves.{Leaves}
 use Rattle.gilboreth.specs.Messages.{outcome}
-use Rattle.promises.specs.Demand2.{Called, Demand2}
+use Rattle.promises.specs.Session.{Session, done, call}
+use Rattle.promises.specs.Demand2.{Called, Followed, Demand2}
+use Rattle.promises.proofs.Determined.{of-message}
+use Rattle.promises.proofs.Encoding.{blank-bytes}
+use Rattle.promises.proofs.Reached.{buffer, buffer-long}
 use Rattle.promises.proofs.Fitting.{event-fits, asked-fits}
 use Rattle.promises.proofs.Outcomes.{served-hit}
 use Rattle.promises.proofs.Sessions.{Follows, outcome-is, bytes-sound, follows, session-follows, session-events, zeros-empty, zeros-sound}
@@ -130,8 +135,8 @@ module _ (X : Table) (m : Message) (t b : List ℕ) (r : Answer) (u c : List ℕ
         fair = λ e. serve-fair X m q (eq→eqb (refusal X m) 0 (sym (served-hit X m) ∙ e));
       }
 
-pub demand2 : Demand2
-demand2 ms es t S =
+follow : (ms : List Message) (es : List Event) (t : List ℕ) → Session (replicate (tableSize width) 0) ms es t → Followed ms es t
+follow ms es t S =
     let F = session-follows S zeros-sound in
     let zero = zeros-empty (tableSize width) in
     let says : tableOf width t ≡ after empty ms = F .says ∙ ap (λ (X : Table). after X ms) zero in
@@ -143,3 +148,14 @@ demand2 ms es t S =
       numbered = λ s. ap (numbers s) same ∙ session-numbers ms s;
       next = λ m b r u c h L. called (after empty ms) m t b r u c says (F .sound) h L;
     }
+
+-- Demand 1 gives each message an outcome, whatever table the one before it left
+sessions : (ms : List Message) (t : List ℕ) → Bytes t → (es : List Event) × (v : List ℕ) × Session t ms es v
+sessions [] t h = ([], t, done)
+sessions (m ∷ ms) t h =
+    let P = of-message m t buffer h in
+    let r = sessions ms (P .some .table) (P .meets .1) in
+    (outcome m t buffer .events ++ r .0, r .1, call {b = buffer} (let e = buffer-long in omega arith) (P .meets .0) (r .2))
+
+pub demand2 : Demand2
+demand2 = record { sessions = λ ms. sessions ms (replicate (tableSize width) 0) (blank-bytes (tableSize width)); follow = follow }

@@ -31,7 +31,7 @@ use Rattle.promises.proofs.Sessions.{outcome-is, holds-sound}
 abbrev pub buffer : List ℕ
 buffer = replicate (eventsSize width) 0
 
-buffer-long : length buffer ≡ eventsSize width
+pub buffer-long : length buffer ≡ eventsSize width
 buffer-long = length-replicate {A = ℕ} (eventsSize width) 0
 
 -- the message's own list decides

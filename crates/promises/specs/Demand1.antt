@@ -160,13 +160,13 @@ fields (Downgrade c h) = c ∷ h ∷ []
 fields (Release c h) = c ∷ h ∷ []
 
 -- "Numbers arrive as 64-bit values", and buffers hold bytes
-abbrev pub fits : List ℕ → Type 0
-fits ns = T (all (λ n. ltb n (2 ^ 64)) ns)
+abbrev pub Words : List ℕ → Type 0
+Words ns = T (all (λ n. ltb n (2 ^ 64)) ns)
 
 abbrev pub Lent : Input → Type 0
-Lent (message m t b) = fits (fields m) × Bytes t × Bytes b
-Lent (noting m l first len number image) = fits (first ∷ len ∷ number ∷ image ∷ []) × Bytes m × Bytes l
-Lent (writing m first piece number image) = fits (first ∷ number ∷ []) × Bytes m × Bytes piece × Bytes image
+Lent (message m t b) = Words (fields m) × Bytes t × Bytes b
+Lent (noting m l first len number image) = Words (first ∷ len ∷ number ∷ image ∷ []) × Bytes m × Bytes l
+Lent (writing m first piece number image) = Words (first ∷ number ∷ []) × Bytes m × Bytes piece × Bytes image
 Lent (restarting m l) = Bytes m × Bytes l
 
 -- An input of the entry e gets each of these numbers

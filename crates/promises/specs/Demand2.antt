@@ -31,8 +31,8 @@ abbrev pub In : {A : Type 0} → A → List A → Type 0
 In x [] = ⊥
 In x (y ∷ ys) = (x ≡ y) ⊎ In x ys
 
-abbrev pub rising : List Lock → Type 0
-rising rs = T (pairs (λ a b. ltb (handleOf a) (handleOf b)) rs)
+abbrev pub Rising : List Lock → Type 0
+Rising rs = T (pairs (λ a b. ltb (handleOf a) (handleOf b)) rs)
 
 -- The last byte l of a grant of w among the records rs is "the greatest one up to EOF for which the range conflicts with no held lock and no other
 -- waiting request"
@@ -42,7 +42,7 @@ pub record Widest (w : Lock) (rs : List Lock) (l : ℕ) : Type 0 where
   pub clear : T (not (any (against w l) rs))
   pub greatest : (k : ℕ) → l < k → k ≤ eof → T (any (against w k) rs)
 
--- The table X with the message's own change, when the first n places had their turn; and when all had
+-- The table X with the message's own change, when the first n places had their turn; and its records when all had
 abbrev pub turned : Table → Message → ℕ → Settled
 turned X m n = turns n (change X m)
 
@@ -77,7 +77,7 @@ pub record Called (X : Table) (m : Message) (b : List ℕ) (r : Answer) (u c : L
   -- "each record at most one event a call", so at most 256; grants in rising handle, then revocations in rising handle
   pub once : T (pairs (λ x y. not (eqb (handleOf (x .lock)) (handleOf (y .lock)))) (serve X m .events))
   pub few : length (serve X m .events) ≤ maxRecords
-  pub order : (gs rs : List Lock) × (serve X m .events ≡ map grantEvent gs ++ map revocation rs) × rising gs × rising rs
+  pub order : (gs rs : List Lock) × (serve X m .events ≡ map grantEvent gs ++ map revocation rs) × Rising gs × Rising rs
   pub fair : serve X m .refusal ≡ 0 → Fair X m
 
 -- After a session of the entries: its table and events are the rules', a stripe's write grants are numbered 1, 2, 3, .., and so goes any call that
@@ -91,5 +91,7 @@ pub record Followed (ms : List Message) (es : List Event) (t : List ℕ) : Type 
       (m : Message) (b : List ℕ) (r : Answer) (u c : List ℕ) → eventsSize width ≤ length b → Leaves (outcome m t b) t b r u c
       → Called (after empty ms) m b r u c
 
-abbrev pub Demand2 : Type 0
-Demand2 = (ms : List Message) (es : List Event) (t : List ℕ) → Session (replicate (tableSize width) 0) ms es t → Followed ms es t
+pub record Demand2 : Type 0 where
+  -- "A session is a list of messages": every list of messages is one
+  pub sessions : (ms : List Message) → (es : List Event) × (t : List ℕ) × Session (replicate (tableSize width) 0) ms es t
+  pub follow : (ms : List Message) (es : List Event) (t : List ℕ) → Session (replicate (tableSize width) 0) ms es t → Followed ms es t
