@@ -160,7 +160,7 @@ pub same-log : (m log : List ℕ) (f n x i : ℕ) → eqb (noteAnswer m log f n 
 unfolding noteLog
 same-log m log f n x i e = ap (λ (t : Bool). cond t (appended width log (place f n x)) log) e
 
-same-map : (m log : List ℕ) (f n x i : ℕ) → eqb (noteAnswer m log f n x i) 0 ≡ false → noteMap m log f n x i ≡ m
+pub same-map : (m log : List ℕ) (f n x i : ℕ) → eqb (noteAnswer m log f n x i) 0 ≡ false → noteMap m log f n x i ≡ m
 unfolding noteMap
 same-map m log f n x i e = ap (λ (t : Bool). cond t (mapBytes width (raise (place f n x) (runsOf width m))) m) e
 

@@ -14,6 +14,8 @@ pub mod Demand2
 pub mod Carried
 pub mod Views
 pub mod Byte
+pub mod Followed
 pub mod Pieces
 pub mod Demand3
 pub mod Seam
+pub mod OnBytes

@@ -46,7 +46,7 @@ judged (r ∷ rs) = go (r .broken) refl (judged rs)
         })
 
 -- An outcome is accepted, or is the number alone
-abbrev Alone : Table → Outcome → Type 0
+abbrev pub Alone : Table → Outcome → Type 0
 Alone X o = (o .refusal ≡ 0) ⊎ (o ≡ refused X (o .refusal))
 
 module _ (X : Table) (m : Message) where
@@ -58,7 +58,7 @@ module _ (X : Table) (m : Message) where
       go true f = sym (f tt)
       go false f = refl
 
-  served-alone : Alone X (serve X m)
+  pub served-alone : Alone X (serve X m)
   unfolding serve
   served-alone = go (eqb (refusal X m) 0)
     where

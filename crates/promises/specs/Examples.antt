@@ -46,7 +46,7 @@ abbrev pub after : Stripe → List Call → Stripe
 after x [] = x
 after x (c ∷ cs) = after (call x c .stripe) cs
 
-abbrev dots : List ℕ
+abbrev pub dots : List ℕ
 dots = replicate 10 46
 
 abbrev pub begin : Stripe

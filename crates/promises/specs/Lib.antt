@@ -5,3 +5,4 @@ pub mod Run
 pub mod Demand3
 pub mod Seam
 pub mod Examples
+pub mod OnBytes

@@ -1,0 +1,69 @@
+-- P1 to P11 through the entries on bytes: what the outcomes that the contracts cite answer, and what the buffers then say.
+use Prim.Native.Nat.{ℕ, _≤_}
+use mathlib.Core.Path.{_≡_}
+use mathlib.Core.Bool.{cond}
+use mathlib.Core.List.{List, [], _∷_, _++_}
+use lib.Dec.{eqb}
+use lib.ListN.{length, replicate}
+use Rattle.common.specs.Counters.{width}
+use Rattle.xdr.specs.Array.{array}
+use Rattle.table.specs.Bytes.{tableSize}
+use Rattle.locks.specs.declared.Message.{Message}
+use Rattle.locks.specs.Events.{eventLayout, eventsSize}
+use Rattle.runs.specs.declared.Run.{Run}
+use Rattle.runs.specs.Bytes.{runsOf}
+use Rattle.serve.specs.declared.Answer.{Answer}
+use Rattle.serve.specs.Serves.{Leaves}
+use Rattle.gilboreth.specs.Messages.{outcome}
+use Rattle.gilboreth.specs.Note.{noteAnswer}
+use Rattle.gilboreth.specs.Write.{writeAnswer}
+use Rattle.promises.specs.Run as run
+use Rattle.promises.specs.Run.{Piece, Map, lost, live, Stripe, Step, next}
+use Rattle.promises.specs.Examples.{Call, noting, writing, Row, sending, calling, dots, examples}
+
+-- The lines of messages from the table's bytes t on: of each call refusal and handle, and the events that its buffer then holds
+abbrev pub shown : Answer → List ℕ → List (List ℕ)
+shown r c = (r .refusal ∷ r .handle ∷ []) ∷ cond (eqb (r .refusal) 0) (array (eventLayout width) c 0) []
+
+pub data Prints : List ℕ → List Message → List (List ℕ) → Type 0 where
+  done : {t : List ℕ} → Prints t [] []
+  call : {t u b c : List ℕ} {m : Message} {ms : List Message} {r : Answer} {ls : List (List ℕ)}
+      → eventsSize width ≤ length b → Leaves (outcome m t b) t b r u c → Prints u ms ls → Prints t (m ∷ ms) (shown r c ++ ls)
+
+-- A call as a step of a run: a note is told how long the piece is
+abbrev pub piece : ℕ → List ℕ → ℕ → Piece
+piece first bytes number = record { first = first; bytes = bytes; number = number }
+
+abbrev pub step : Call → Step
+step (noting first len number) = run.note (piece first (replicate len 0) number)
+step (writing first bytes number) = run.write (piece first bytes number)
+
+abbrev pub answerOf : Stripe → Map → Call → ℕ
+answerOf s lost c = 0
+answerOf s (live m) (noting first len number) = noteAnswer m (s .log) first len number (length (s .image))
+answerOf s (live m) (writing first bytes number) = writeAnswer m first (length bytes) number (length (s .image))
+
+abbrev pub answers : Stripe → List Call → List ℕ
+answers s [] = []
+answers s (c ∷ cs) = answerOf s (s .map) c ∷ answers (next s (step c)) cs
+
+abbrev pub after : Stripe → List Call → Stripe
+after s [] = s
+after s (c ∷ cs) = after (next s (step c)) cs
+
+abbrev pub runsIn : Map → List Run
+runsIn lost = []
+runsIn (live m) = runsOf width m
+
+-- A row holds on bytes, whatever buffers are lent for events
+abbrev pub Holds : Row → Type 0
+Holds (sending sent printed) = (ls : List (List ℕ)) → Prints (replicate (tableSize width) 0) sent ls → ls ≡ printed
+Holds (calling made answered map image) =
+    (answers (run.begin dots) made ≡ answered) × (runsIn (after (run.begin dots) made .map) ≡ map) × (after (run.begin dots) made .image ≡ image)
+
+abbrev pub AllHold : List Row → Type 0
+AllHold [] = Unit {0}
+AllHold (r ∷ rs) = Holds r × AllHold rs
+
+abbrev pub OnBytes : Type 0
+OnBytes = AllHold examples
