@@ -17,7 +17,7 @@ use Rattle.locks.specs.Refusals.{rules}
 use Rattle.locks.specs.Events.{eventsSize}
 use Rattle.gilboreth.specs.Messages.{outcome}
 use Rattle.promises.specs.Demand1.{Entry, request, acknowledge, downgrade, release, note, write, restart, numbers, entryOf}
-use Rattle.promises.specs.Demand1.{Input, message, noting, writing, restarting, at, gets, fields, Words, Lent, Reached, Demand1}
+use Rattle.promises.specs.Demand1.{Words, fields, Gets, message, noting, writing, restarting, Reached, Demand1}
 use Rattle.promises.proofs.Encoding.{blank-bytes, tableBytes, table-bytes}
 use Rattle.promises.proofs.Determined.{of-message, of-note, of-write, of-restart}
 use Rattle.promises.proofs.Spaced.{spaced}
@@ -44,23 +44,20 @@ unfolding logged
 logged-bytes es = runs-bytes (logSize width) es
 
 -- A message on no table, on the empty table, on a table
-abbrev Reach : Entry → ℕ → Type 0
-Reach e n = (i : Input) × (at i ≡ e) × Lent i × (gets i ≡ n)
-
 module _ (m : Message) (f : Words (fields m)) where
-  short : Reach (entryOf m) 1
-  short = (message m [] [], refl, (f, no-bytes, no-bytes), no-events m)
+  short : Gets (entryOf m) 1
+  short = message m [] [] f no-bytes no-bytes (no-events m)
 
-  absent : Reach (entryOf m) 2
-  absent = (message m [] buffer, refl, (f, no-bytes, blank-bytes (eventsSize width)), another-length m)
+  absent : Gets (entryOf m) 2
+  absent = message m [] buffer f no-bytes (blank-bytes (eventsSize width)) (another-length m)
 
-  on : (X : Table) (n : ℕ) → outcome m (tableBytes X) buffer .refusal ≡ n → Reach (entryOf m) n
-  on X n e = (message m (tableBytes X) buffer, refl, (f, table-bytes X, blank-bytes (eventsSize width)), e)
+  on : (X : Table) (n : ℕ) → outcome m (tableBytes X) buffer .refusal ≡ n → Gets (entryOf m) n
+  on X n e = message m (tableBytes X) buffer f (table-bytes X) (blank-bytes (eventsSize width)) e
 
-  first : (n : ℕ) → firstHit (rules empty m) ≡ n → Reach (entryOf m) n
+  first : (n : ℕ) → firstHit (rules empty m) ≡ n → Gets (entryOf m) n
   first n e = on empty n (on-empty m n e)
 
-  lone : (n : ℕ) → firstHit (rules single m) ≡ n → Reach (entryOf m) n
+  lone : (n : ℕ) → firstHit (rules single m) ≡ n → Gets (entryOf m) n
   lone n e = on single n (on-single m n e)
 
 map0-bytes : Bytes map0
@@ -105,23 +102,23 @@ reached release =
     also lone (Release 1 1) tt 10 refl
     also tt
 reached note =
-    (noting [] [] 0 1 1 1, refl, (tt, no-bytes, no-bytes), note-12)
-    also (noting map0 [] 0 1 1 1, refl, (tt, map0-bytes, no-bytes), note-13)
-    also (noting map0 log0 0 0 1 1, refl, (tt, map0-bytes, log0-bytes), note-14)
-    also (noting map0 log0 0 1 0 1, refl, (tt, map0-bytes, log0-bytes), note-15)
-    also (noting (mapBytes width (spaced 1 1024)) log0 2049 1 1 2050, refl, (tt, map-bytes (spaced 1 1024), log0-bytes), note-16)
-    also (noting map0 (logged (replicate maxEntries one)) 0 1 1 1, refl, (tt, map0-bytes, logged-bytes (replicate maxEntries one)), note-17)
+    noting [] [] 0 1 1 1 tt no-bytes no-bytes note-12
+    also noting map0 [] 0 1 1 1 tt map0-bytes no-bytes note-13
+    also noting map0 log0 0 0 1 1 tt map0-bytes log0-bytes note-14
+    also noting map0 log0 0 1 0 1 tt map0-bytes log0-bytes note-15
+    also noting (mapBytes width (spaced 1 1024)) log0 2049 1 1 2050 tt (map-bytes (spaced 1 1024)) log0-bytes note-16
+    also noting map0 (logged (replicate maxEntries one)) 0 1 1 1 tt map0-bytes (logged-bytes (replicate maxEntries one)) note-17
     also tt
 reached write =
-    (writing [] 0 (0 ∷ []) 1 (0 ∷ []), refl, (tt, no-bytes, blank-bytes 1, blank-bytes 1), write-12)
-    also (writing map0 0 [] 1 (0 ∷ []), refl, (tt, map0-bytes, no-bytes, blank-bytes 1), write-14)
-    also (writing map0 0 (0 ∷ []) 0 (0 ∷ []), refl, (tt, map0-bytes, blank-bytes 1, blank-bytes 1), write-15)
-    also (writing map0 0 (0 ∷ []) 1 (0 ∷ []), refl, (tt, map0-bytes, blank-bytes 1, blank-bytes 1), write-18)
+    writing [] 0 (0 ∷ []) 1 (0 ∷ []) tt no-bytes (blank-bytes 1) (blank-bytes 1) write-12
+    also writing map0 0 [] 1 (0 ∷ []) tt map0-bytes no-bytes (blank-bytes 1) write-14
+    also writing map0 0 (0 ∷ []) 0 (0 ∷ []) tt map0-bytes (blank-bytes 1) (blank-bytes 1) write-15
+    also writing map0 0 (0 ∷ []) 1 (0 ∷ []) tt map0-bytes (blank-bytes 1) (blank-bytes 1) write-18
     also tt
 reached restart =
-    (restarting [] [], refl, (no-bytes, no-bytes), restart-12)
-    also (restarting map0 [], refl, (map0-bytes, no-bytes), restart-13)
-    also (restarting map0 (logged (spaced 1 1025)), refl, (map0-bytes, logged-bytes (spaced 1 1025)), restart-16)
+    restarting [] [] no-bytes no-bytes restart-12
+    also restarting map0 [] map0-bytes no-bytes restart-13
+    also restarting map0 (logged (spaced 1 1025)) map0-bytes (logged-bytes (spaced 1 1025)) restart-16
     also tt
 
 pub demand1 : Demand1

@@ -134,24 +134,9 @@ OfRestart map log =
     (restartRules (eqb (length map) (mapSize width)) (soundLogBytes log) (runsOf width log)) (numbers restart)
     (λ n. record { answer = n; map = map })
 
--- An input of an entry; its numbers and buffers, as they are lent; and the refusal number that it gets
-pub data Input : Type 0 where
-  message : Message → (table events : List ℕ) → Input
-  noting : (map log : List ℕ) (first len number image : ℕ) → Input
-  writing : (map : List ℕ) (first : ℕ) (piece : List ℕ) (number : ℕ) (image : List ℕ) → Input
-  restarting : (map log : List ℕ) → Input
-
-abbrev pub at : Input → Entry
-at (message m t b) = entryOf m
-at (noting m l first len number image) = note
-at (writing m first piece number image) = write
-at (restarting m l) = restart
-
-abbrev pub gets : Input → ℕ
-gets (message m t b) = outcome m t b .refusal
-gets (noting m l first len number image) = noteAnswer m l first len number image
-gets (writing m first piece number image) = writeAnswer m first (length piece) number (length image)
-gets (restarting m l) = restartAnswer m l
+-- "Numbers arrive as 64-bit values"
+abbrev pub Words : List ℕ → Type 0
+Words ns = T (all (λ n. ltb n (2 ^ 64)) ns)
 
 abbrev pub fields : Message → List ℕ
 fields (Request c s m f l) = c ∷ s ∷ m ∷ f ∷ l ∷ []
@@ -159,20 +144,19 @@ fields (Acknowledge c h) = c ∷ h ∷ []
 fields (Downgrade c h) = c ∷ h ∷ []
 fields (Release c h) = c ∷ h ∷ []
 
--- "Numbers arrive as 64-bit values", and buffers hold bytes
-abbrev pub Words : List ℕ → Type 0
-Words ns = T (all (λ n. ltb n (2 ^ 64)) ns)
+-- An input of the entry that gets the number n: 64-bit numbers, and buffers of bytes
+pub data Gets : Entry → ℕ → Type 0 where
+  message : {n : ℕ} (m : Message) (table events : List ℕ)
+      → Words (fields m) → Bytes table → Bytes events → outcome m table events .refusal ≡ n → Gets (entryOf m) n
+  noting : {n : ℕ} (map log : List ℕ) (first len number image : ℕ)
+      → Words (first ∷ len ∷ number ∷ image ∷ []) → Bytes map → Bytes log → noteAnswer map log first len number image ≡ n → Gets note n
+  writing : {n : ℕ} (map : List ℕ) (first : ℕ) (piece : List ℕ) (number : ℕ) (image : List ℕ)
+      → Words (first ∷ number ∷ []) → Bytes map → Bytes piece → Bytes image → writeAnswer map first (length piece) number (length image) ≡ n → Gets write n
+  restarting : {n : ℕ} (map log : List ℕ) → Bytes map → Bytes log → restartAnswer map log ≡ n → Gets restart n
 
-abbrev pub Lent : Input → Type 0
-Lent (message m t b) = Words (fields m) × Bytes t × Bytes b
-Lent (noting m l first len number image) = Words (first ∷ len ∷ number ∷ image ∷ []) × Bytes m × Bytes l
-Lent (writing m first piece number image) = Words (first ∷ number ∷ []) × Bytes m × Bytes piece × Bytes image
-Lent (restarting m l) = Bytes m × Bytes l
-
--- An input of the entry e gets each of these numbers
 abbrev pub Reached : Entry → List ℕ → Type 0
 Reached e [] = Unit {0}
-Reached e (n ∷ ns) = ((i : Input) × (at i ≡ e) × Lent i × (gets i ≡ n)) × Reached e ns
+Reached e (n ∷ ns) = Gets e n × Reached e ns
 
 pub record Demand1 : Type 0 where
   pub messages : (m : Message) (table events : List ℕ) → Bytes table → OfMessage m table events
