@@ -1,2 +1,3 @@
 pub mod Raising
+pub mod Beside
 pub mod Reaching

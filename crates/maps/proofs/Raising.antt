@@ -1,22 +1,21 @@
 -- A map raised by a piece: the runs that are left say what the map says from x on, so each run, and the gap before it, is drawn by itself.
 use Prim.Native.Nat.{ℕ, suc, _+_, _≤_, _<_, min, max}
+use native.Mathlib.Numerals.{add-one}
 use native.Mathlib.Omega.{arith}
-use mathlib.Core.Path.{_≡_, refl, _∙_, subst}
+use mathlib.Core.Path.{_≡_, refl, sym, _∙_, subst}
+use mathlib.Core.Logic.{⊎-elim}
 use mathlib.Core.Bool.{true}
 use mathlib.Core.List.{List, [], _∷_}
-use Rattle.common.specs.Ranges.{eof}
+use Rattle.common.proofs.Order.{below}
 use Rattle.runs.specs.declared.Run.{Run}
 use Rattle.runs.specs.Owner.{ageOf, owner}
-use Rattle.runs.specs.Map.{raise}
-use Rattle.runs.specs.Sound.{allValid, soundMap}
+use Rattle.runs.specs.Sound.{soundMap}
 use Rattle.runs.proofs.Over.{over-before, over-in, over-after, owner-after}
-use Rattle.runs.proofs.Canon.{Canon, head, rest, canon-before}
-use Rattle.runs.proofs.Valid.{Valid, valid-cons, beyond}
+use Rattle.runs.proofs.Canon.{Canon, head, rest, canon-start, canon-before, canon-head}
+use Rattle.runs.proofs.Valid.{Valid}
 use Rattle.runs.proofs.Sound.{sound-canon}
-use Rattle.runs.proofs.Stretch.{map-drawn}
 use Rattle.pen.specs.declared.Pen.{Pen}
-use Rattle.pen.specs.Drawing.{Drawn, Flushed, Went, one, Stored}
-use Rattle.pen.proofs.Steps.{flushed}
+use Rattle.pen.specs.Drawing.{Drawn, Went, one}
 use Rattle.maps.specs.Reach.{under}
 
 -- two steps to the right
@@ -63,35 +62,47 @@ pass-went p p1 p2 o o1 o2 r piece v w1 w2 =
           (w1 .keeps g old (λ b i j. s b i (omega arith) ∙ omega (arith, over-before r b (omega arith))) d);
     }
 
--- the runs that are left say what the map says from x on
+-- the runs that are left say what the map says from x on, and the byte before x has another age than a run that starts there
 pub record Left (rs left : List Run) (x : ℕ) : Type 0 where
   pub age : ℕ
   pub canon : Canon x age left
+  pub said : (b : ℕ) → suc b ≡ x → owner rs b ≡ age
   pub agree : (b : ℕ) → x ≤ b → owner rs b ≡ owner left b
 
 pub left-all : (rs : List Run) → soundMap rs ≡ true → Left rs rs 0
-left-all rs e = record { age = 0; canon = sound-canon rs e; agree = λ b h. refl }
+left-all rs e = record { age = 0; canon = sound-canon rs e; said = λ b e. absurd (let z : ⊥ = omega arith in z); agree = λ b h. refl }
 
-module _ (piece : Run) (rs : List Run) (p p1 : Pen) (old o o1 : List ℕ) where
-  pub raise-more : (r : Run) (left : List Run) → Went p (r .last + 1) (owner (piece ∷ r ∷ [])) o o1 p1 → Left rs (r ∷ left) (p .x) → Drawn (owner (piece ∷ rs)) old o p
-      → Left rs left (p1 .x) × Drawn (owner (piece ∷ rs)) old o1 p1
-  unfolding owner
-  raise-more r left w l d =
+module _ {rs left : List Run} {x : ℕ} (r : Run) (l : Left rs (r ∷ left) x) where
+  pub left-in : (b : ℕ) → r .first ≤ b → b ≤ r .last → owner rs b ≡ ageOf r
+  left-in b h k = let n = head (l .canon) in l .agree b (omega arith) ∙ canon-head b (l .canon) h k
+
+  pub left-next : Left rs left (r .last + 1)
+  left-next =
       let n = head (l .canon) in
-      let a = w .at in
-      let e : suc (r .last) ≡ p1 .x = omega arith in (
-        record {
-          age = ageOf r;
-          canon = subst (λ (x : ℕ). Canon x (ageOf r) left) e (rest (l .canon));
-          agree = λ b h. l .agree b (omega arith) ∙ owner-after r left b (omega arith);
-        },
-        w .keeps (owner (piece ∷ rs)) old (λ b i j. omega (arith, l .agree b i, canon-before b (rest (l .canon)) (omega arith))) d,
-      )
+      record {
+        age = ageOf r;
+        canon = rw (add-one (r .last)) (rest (l .canon));
+        said = λ b e. left-in b (omega arith) (omega arith);
+        agree = λ b h. l .agree b (omega arith) ∙ owner-after r left b (omega arith);
+      }
 
-  pub raise-done : (o2 : List ℕ) (k : ℕ) → Valid piece → allValid rs ≡ true → Went p (suc eof) (under piece 0) o o1 p1 → Flushed p1 o1 o2 k → Left rs [] (p .x) → Drawn (owner (piece ∷ rs)) old o p
-      → Stored (raise piece rs) old o2 k
-  unfolding owner
-  raise-done o2 k v e w f l d =
-      let a = w .at in
-      rw (map-drawn (piece ∷ rs) (p1 .x) (λ b h. beyond (piece ∷ rs) b (valid-cons piece rs v e) (omega arith)))
-      (flushed p1 (w .fine) (w .keeps (owner (piece ∷ rs)) old (λ b i j. omega (arith, l .agree b i)) d) f)
+  -- the ages turn where a run starts
+  pub left-turns : (b : ℕ) → suc b ≡ r .first → owner rs b ≡ ageOf r → ⊥
+  left-turns b e f =
+      let n = head (l .canon) in
+      ⊎-elim
+      (λ (h : b < x). n .other (omega arith) (sym f ∙ l .said b (omega arith)))
+      (λ (h : x ≤ b). let z = l .agree b h in let y = canon-before b (canon-start (r .first) r (l .canon) (omega arith)) (omega arith) in omega arith)
+      (below b x)
+
+-- one run is drawn
+pub raise-more : (piece : Run) (rs : List Run) (p p1 : Pen) (o o1 : List ℕ) (r : Run) (left : List Run) → Went p (r .last + 1) (owner (piece ∷ r ∷ [])) o o1 p1 → Left rs (r ∷ left) (p .x)
+    → Left rs left (p1 .x) × ((old : List ℕ) → Drawn (owner (piece ∷ rs)) old o p → Drawn (owner (piece ∷ rs)) old o1 p1)
+unfolding owner
+raise-more piece rs p p1 o o1 r left w l =
+    let n = head (l .canon) in
+    let a = w .at in
+    let e : r .last + 1 ≡ p1 .x = omega arith in (
+      subst (Left rs left) e (left-next r l),
+      λ old. w .keeps (owner (piece ∷ rs)) old (λ b i j. omega (arith, l .agree b i, canon-before b (rest (l .canon)) (omega arith))),
+    )

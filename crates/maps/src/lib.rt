@@ -4,15 +4,17 @@ use runs::Run;
 ghost use mathlib.Core.Path.{_≡_};
 ghost use mathlib.Core.Bool.{true};
 ghost use mathlib.Core.List.{[], _∷_};
-ghost use Prim.Native.Nat.{_+_, _≤_, min, max};
-ghost use lib.ListN.{length};
+ghost use Prim.Native.Nat.{suc, _+_, _-_, _≤_, min, max};
+ghost use lib.ListN.{length, take, drop};
 ghost use Rattle.common.specs.Counters.{width};
 ghost use Rattle.common.specs.Ranges.{eof};
+ghost use Rattle.xdr.specs.Be.{be};
 ghost use Rattle.runs.specs.Owner.{owner};
 ghost use Rattle.runs.specs.Map.{raise, mapOf};
 ghost use Rattle.runs.specs.Bytes.{mapSize, runsOf, soundMapBytes, soundLogBytes};
 ghost use Rattle.runs.proofs.Valid.{Valid};
-ghost use Rattle.pen.specs.Drawing.{Fine, Went, Stored};
+ghost use Rattle.pen.specs.Drawing.{Fine, withRuns, Added, Went, Stored};
+ghost use Rattle.maps.specs.Beside.{Begun, Ended, penAt, startOf};
 ghost use Rattle.maps.specs.Reach.{under, Covers, Reach, Opened, Seen};
 
 // Takes the lesser of two numbers.
@@ -73,20 +75,95 @@ fn pass(out: &mut [u8], p: Pen, r: Run, piece: Run) -> Pen
     span(out, gap, r.last + 1, r.number.0, piece)
 }
 
-// Draws a sound map raised by a piece, and counts its runs.
+// Counts the runs of a sound map that start at or before the byte x; the first `from` of them do.
+fn begun(map: &[u8], from: usize, x: u64) -> usize
+    requires { ⌜ (soundMapBytes (now map) ≡ true) × (from ≤ be 4 (now map) 0) ⌝ }
+    ensures { λ k. ⌜ Begun (now (map .entry)) from x k ⌝ }
+{
+    let mut low = from;
+    let mut high = runbytes::count(map);
+    while low < high {
+        let middle = (low + high) / 2;
+        if runbytes::run_at(map, middle).first <= x {
+            low = middle + 1;
+            continue;
+        }
+        high = middle;
+    }
+    low
+}
+
+// Counts runs of a sound map that end before the byte x: all that start at or before it, but for the last of these.
+fn ended(map: &[u8], x: u64) -> usize
+    requires { ⌜ soundMapBytes (now map) ≡ true ⌝ }
+    ensures { λ k. ⌜ Ended (now (map .entry)) x k ⌝ }
+{
+    let n = begun(map, 0, x);
+    if n == 0 {
+        return 0;
+    }
+    n - 1
+}
+
+// Finds where the run at place i of a sound map starts: past EOF where there is none.
+fn start_at(map: &[u8], i: usize) -> u64
+    requires { ⌜ (soundMapBytes (now map) ≡ true) × (i ≤ be 4 (now map) 0) ⌝ }
+    ensures { λ q. ⌜ (q ≡ startOf (drop i (runsOf width (now (map .entry))))) × (q ≤ suc eof) ⌝ }
+{
+    if i < runbytes::count(map) {
+        return runbytes::run_at(map, i).first;
+    }
+    runbytes::EOF + 1
+}
+
+// Keeps the runs before place i of a sound map; the last of them is pending.
+fn skip(out: &mut [u8], map: &[u8], i: usize) -> Pen
+    requires { ⌜ (length (now out) ≡ mapSize width) × (soundMapBytes (now map) ≡ true) × (i ≤ be 4 (now map) 0) ⌝ }
+    ensures { λ p. ⌜ (p ≡ penAt (now (map .entry)) i) × (now (out .exit) ≡ withRuns (now (out .entry)) 0 (take (i - 1) (runsOf width (now (map .entry))))) ⌝ }
+{
+    if i == 0 {
+        return pen::start();
+    }
+    let k = i - 1;
+    pen::keep(out, 0, map, 0, k);
+    let r = runbytes::run_at(map, k);
+    Pen {
+        k,
+        cur: r.first,
+        tip: r.number.0,
+        x: r.last + 1,
+    }
+}
+
+// Keeps the runs from place i of a sound map on, behind k others, if they fit, and counts them.
+fn rest(out: &mut [u8], k: usize, map: &[u8], i: usize) -> usize
+    requires { ⌜ (length (now out) ≡ mapSize width) × (soundMapBytes (now map) ≡ true) × (i ≤ be 4 (now map) 0) × (k ≤ suc eof) ⌝ }
+    ensures { λ t. ⌜ Added (drop i (runsOf width (now (map .entry)))) k (now (out .entry)) (now (out .exit)) t ⌝ }
+{
+    let n = runbytes::count(map) - i;
+    let total = k + n;
+    if runbytes::MAX_RUNS < total {
+        return total;
+    }
+    pen::keep(out, k, map, i, n);
+    total
+}
+
+// Draws a sound map raised by a piece, and counts its runs. Only the runs that the piece may meet or touch are drawn anew.
 pub fn raised(out: &mut [u8], map: &[u8], piece: Run) -> usize
     requires { ⌜ (length (now out) ≡ mapSize width) × (soundMapBytes (now map) ≡ true) × Valid piece ⌝ }
     ensures { λ k. ⌜ Stored (raise piece (runsOf width (now (map .entry)))) (now (out .entry)) (now (out .exit)) k ⌝ }
 {
-    let n = runbytes::count(map);
-    let mut p = pen::start();
-    let mut i: usize = 0;
-    while i < n {
+    let mut i = ended(map, piece.first);
+    let to = begun(map, i, piece.last + 1);
+    let mut p = skip(out, map, i);
+    while i < to {
         p = pass(out, p, runbytes::run_at(map, i), piece);
         i += 1;
     }
-    p = span(out, p, runbytes::EOF + 1, 0, piece);
-    pen::flush(out, p)
+    p = span(out, p, start_at(map, to), 0, piece);
+    let k = pen::flush(out, p);
+    rest(out, k, map, to)
 }
 
 // From a byte on, the age is at least `age` before `end`, and at most `age` before `stop`.

@@ -20,7 +20,7 @@ use Rattle.runs.specs.Sound.{maxRuns}
 use Rattle.runs.specs.Bytes.{runLayout, runFields}
 use Rattle.runs.proofs.Stretch.{draw-append, draw-flat}
 use Rattle.pen.specs.declared.Pen.{Pen}
-use Rattle.pen.specs.Drawing.{fresh, Fine, pending, Drawn, Flushed, Went, one, Stored}
+use Rattle.pen.specs.Drawing.{fresh, Fine, pending, Drawn, Added, Flushed, Went, one, Stored}
 
 module _ (p : Pen) (out : List ℕ) where
   pub flush-none : p .tip ≡ 0 → Flushed p out out (p .k)
@@ -42,6 +42,19 @@ pub drawn-fresh : (g : ℕ → ℕ) (old : List ℕ) → Drawn g old old fresh
 unfolding draw putElements
 drawn-fresh g old = record { flat = λ b u v. absurd (let y : ⊥ = omega arith in y); turns = λ b e _. omega arith; count = refl; bytes = λ _. refl }
 
+-- runs that are added to what is stored are stored with it
+pub stored-added : (xs ys : List Run) {old out out′ : List ℕ} {k k′ : ℕ} → Stored xs old out k → Added ys k out out′ k′ → Stored (xs ++ ys) old out′ k′
+stored-added xs ys {old} {k = k} s a =
+    let c = a .count in
+    record {
+      count = rw length-append (omega (arith, s .count));
+      bytes = λ h. rw (
+        map-append,
+        ← put-elements-append (runLayout width) old 0 0 k (map runFields xs) (map runFields ys) (rw (length-map, zero-add) (s .count)),
+        ← s .bytes (omega arith),
+      ) (a .bytes h);
+    }
+
 module _ {g : ℕ → ℕ} {old out : List ℕ} (p : Pen) (F : Fine p) (d : Drawn g old out p) where
   -- what is drawn up to x
   grown : draw g 0 (p .x) ≡ draw g 0 (p .cur) ++ pending p
@@ -54,17 +67,15 @@ module _ {g : ℕ → ℕ} {old out : List ℕ} (p : Pen) (F : Fine p) (d : Draw
 
   module _ {out′ : List ℕ} {k : ℕ} (f : Flushed p out out′ k) where
     pub flushed : Stored (draw g 0 (p .x)) old out′ k
-    flushed =
-        let c = f .count in
-        record {
-          count = rw (grown, length-append) (omega (arith, d .count));
-          bytes = λ h. rw (
-            grown,
-            map-append,
-            ← put-elements-append (runLayout width) old 0 0 (p .k) (map runFields (draw g 0 (p .cur))) (map runFields (pending p)) (rw (length-map, zero-add) (d .count)),
-            ← d .bytes (omega arith),
-          ) (f .bytes h);
-        }
+    flushed = rw grown (stored-added (draw g 0 (p .cur)) (pending p) (record { count = d .count; bytes = d .bytes }) f)
+
+-- there are no more runs than bytes
+pub few : (p : Pen) {out out′ : List ℕ} {k : ℕ} → Fine p → Flushed p out out′ k → k ≤ p .x
+few p {k = k} F f =
+    ⊎-elim
+    (λ (z : p .tip ≡ 0). let c : k ≡ p .k + 0 = rw (eq-eqb (p .tip) 0 z) at (f .count) in omega arith)
+    (λ (z : p .tip ≡ 0 → ⊥). let c : k ≡ p .k + 1 = rw (ne-eqb (p .tip) 0 z) at (f .count) in omega arith)
+    (same (p .tip) 0)
 
 module _ (p : Pen) (q a : ℕ) (out : List ℕ) (F : Fine p) (h : p .x < q) where
   -- the age stays
@@ -86,7 +97,7 @@ module _ (p : Pen) (q a : ℕ) (out : List ℕ) (F : Fine p) (h : p .x < q) wher
   push-new out′ k t f =
       record {
         at = omega arith;
-        fine = record { stored = few; behind = omega arith; begun = omega arith };
+        fine = record { stored = few p F f; behind = omega arith; begun = omega arith };
         keeps = λ g old v d. record {
           flat = v;
           turns = λ b u w. t (sym w ∙ d .flat b (omega arith) (omega arith));
@@ -94,10 +105,3 @@ module _ (p : Pen) (q a : ℕ) (out : List ℕ) (F : Fine p) (h : p .x < q) wher
           bytes = flushed p F d f .bytes;
         };
       }
-    where
-      few : k ≤ p .x
-      few =
-          ⊎-elim
-          (λ (z : p .tip ≡ 0). let c : k ≡ p .k + 0 = rw (eq-eqb (p .tip) 0 z) at (f .count) in omega arith)
-          (λ (z : p .tip ≡ 0 → ⊥). let c : k ≡ p .k + 1 = rw (ne-eqb (p .tip) 0 z) at (f .count) in omega arith)
-          (same (p .tip) 0)

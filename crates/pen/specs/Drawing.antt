@@ -39,10 +39,14 @@ pub record Drawn (g : ℕ → ℕ) (old out : List ℕ) (p : Pen) : Type 0 where
   pub count : p .k ≡ length (draw g 0 (p .cur))
   pub bytes : p .k ≤ maxRuns → out ≡ withRuns old 0 (draw g 0 (p .cur))
 
+-- behind k runs the runs rs are counted too, and stored if they fit
+pub record Added (rs : List Run) (k : ℕ) (out out′ : List ℕ) (k′ : ℕ) : Type 0 where
+  pub count : k′ ≡ k + length rs
+  pub bytes : k′ ≤ maxRuns → out′ ≡ withRuns out k rs
+
 -- the pending run is counted, and stored if it fits
-pub record Flushed (p : Pen) (out out′ : List ℕ) (k : ℕ) : Type 0 where
-  pub count : k ≡ p .k + length (pending p)
-  pub bytes : k ≤ maxRuns → out′ ≡ withRuns out (p .k) (pending p)
+abbrev pub Flushed : Pen → List ℕ → List ℕ → ℕ → Type 0
+Flushed p out out′ k = Added (pending p) (p .k) out out′ k
 
 -- the pen p went on to q at the ages v
 pub record Went (p : Pen) (q : ℕ) (v : ℕ → ℕ) (out out′ : List ℕ) (p′ : Pen) : Type 0 where

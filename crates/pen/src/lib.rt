@@ -2,10 +2,13 @@
 use common::Number;
 use runs::Run;
 ghost use mathlib.Core.Path.{_≡_};
-ghost use lib.ListN.{length};
+ghost use Prim.Native.Nat.{_+_, _≤_};
+ghost use lib.ListN.{length, take, drop};
 ghost use Rattle.common.specs.Counters.{width};
-ghost use Rattle.runs.specs.Bytes.{mapSize};
-ghost use Rattle.pen.specs.Drawing.{fresh, Fine, Flushed, Went, one};
+ghost use Rattle.xdr.specs.Be.{be};
+ghost use Rattle.runs.specs.Sound.{maxRuns};
+ghost use Rattle.runs.specs.Bytes.{mapSize, runsOf};
+ghost use Rattle.pen.specs.Drawing.{fresh, Fine, withRuns, Flushed, Went, one};
 
 // k runs are stored, or counted where they do not fit; from cur up to before x the age is tip.
 pub struct Pen {
@@ -73,5 +76,18 @@ pub fn push(out: &mut [u8], p: Pen, q: u64, a: u64) -> Pen
         cur: p.x,
         tip: a,
         x: q,
+    }
+}
+
+// Stores n runs of a map as they stand: those from place `from` on go to place k and on.
+pub fn keep(out: &mut [u8], k: usize, map: &[u8], from: usize, n: usize)
+    requires { ⌜ (length (now out) ≡ mapSize width) × (k + n ≤ maxRuns) ⌝ }
+    requires { ⌜ (length (now map) ≡ mapSize width) × (be 4 (now map) 0 ≤ maxRuns) × (from + n ≤ be 4 (now map) 0) ⌝ }
+    ensures { λ _. ⌜ now (out .exit) ≡ withRuns (now (out .entry)) k (take n (drop from (runsOf width (now (map .entry))))) ⌝ }
+{
+    let mut i: usize = 0;
+    while i < n {
+        runbytes::put_run(out, k + i, runbytes::run_at(map, from + i));
+        i += 1;
     }
 }
