@@ -4,7 +4,7 @@ use runs::Run;
 ghost use mathlib.Core.Path.{_≡_};
 ghost use mathlib.Core.Bool.{true};
 ghost use mathlib.Core.List.{[], _∷_};
-ghost use Prim.Native.Nat.{suc, _+_, _-_, _≤_, min, max};
+ghost use Prim.Native.Nat.{suc, _+_, _-_, _≤_};
 ghost use lib.ListN.{length, take, drop};
 ghost use Rattle.common.specs.Counters.{width};
 ghost use Rattle.common.specs.Ranges.{eof};
@@ -17,37 +17,17 @@ ghost use Rattle.pen.specs.Drawing.{Fine, withRuns, Added, Went, Stored};
 ghost use Rattle.maps.specs.Beside.{Begun, Ended, penAt, startOf};
 ghost use Rattle.maps.specs.Reach.{under, Covers, Reach, Opened, Seen};
 
-// Takes the lesser of two numbers.
-fn lesser(a: u64, b: u64) -> u64
-    ensures { λ r. ⌜ r ≡ min a b ⌝ }
-{
-    if a < b {
-        return a;
-    }
-    b
-}
-
-// Takes the greater of two numbers.
-fn greater(a: u64, b: u64) -> u64
-    ensures { λ r. ⌜ r ≡ max a b ⌝ }
-{
-    if a < b {
-        return b;
-    }
-    a
-}
-
 // Draws the age m up to before q, across the piece: before it, inside it at the greater age, and after it.
 fn cross(out: &mut [u8], p: Pen, q: u64, m: u64, piece: Run) -> Pen
     requires { ⌜ (length (now out) ≡ mapSize width) × Fine p × Valid piece ⌝ }
     ensures { λ r. ⌜ Went p q (under piece m) (now (out .entry)) (now (out .exit)) r ⌝ }
 {
-    let before = pen::push(out, p, lesser(q, piece.first), m);
+    let before = pen::push(out, p, runbytes::lesser(q, piece.first), m);
     let inside = pen::push(
         out,
         before,
-        lesser(q, piece.last + 1),
-        greater(piece.number.0, m),
+        runbytes::lesser(q, piece.last + 1),
+        runbytes::greater(piece.number.0, m),
     );
     pen::push(out, inside, q, m)
 }
@@ -214,7 +194,7 @@ fn seen(x: u64, r: Run, v: View) -> View
         return View {
             age: v.age,
             end: v.end,
-            stop: lesser(v.stop, r.first),
+            stop: runbytes::lesser(v.stop, r.first),
         };
     }
     if x <= r.last {
@@ -255,7 +235,7 @@ pub fn rebuilt(out: &mut [u8], log: &[u8]) -> usize
     };
     while p.x <= runbytes::EOF {
         v = look(log, p.x, v);
-        p = pen::push(out, p, lesser(v.end, v.stop), v.age);
+        p = pen::push(out, p, runbytes::lesser(v.end, v.stop), v.age);
     }
     pen::flush(out, p)
 }

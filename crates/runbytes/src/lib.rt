@@ -2,14 +2,16 @@
 use common::Number;
 use runs::Run;
 ghost use mathlib.Core.Path.{_≡_};
-ghost use Prim.Native.Nat.{_+_, _≤_, _<_, _^_};
+ghost use mathlib.Core.Bool.{true};
+ghost use Prim.Native.Nat.{_+_, _≤_, _<_, _^_, min, max};
 ghost use lib.ListN.{length, drop};
 ghost use Rattle.common.specs.Counters.{width};
+ghost use Rattle.common.specs.Ranges.{eof};
 ghost use Rattle.common.specs.Tests.{zeros};
 ghost use Rattle.xdr.specs.Be.{be};
 ghost use Rattle.xdr.specs.Layout.{putFields};
 ghost use Rattle.xdr.specs.Array.{element};
-ghost use Rattle.runs.specs.Sound.{valid, allValid, leads, apart};
+ghost use Rattle.runs.specs.Sound.{allValid, leads, apart};
 ghost use Rattle.runs.specs.Bytes.{runLayout, runFields, runsOf, runsEnd, soundMapBytes, soundLogBytes};
 ghost use Rattle.runbytes.specs.Places.{runAt};
 
@@ -56,41 +58,57 @@ pub fn put_run(s: &mut [u8], k: usize, r: Run)
     xdr::put_u32(s, at + 16, r.number.0);
 }
 
-// Tests that a run is a valid range with a number at least 1.
-fn is_valid(r: Run) -> bool
-    ensures { λ b. ⌜ b ≡ valid r ⌝ }
+// Takes the lesser of two numbers.
+pub fn lesser(a: u64, b: u64) -> u64
+    ensures { λ r. ⌜ r ≡ min a b ⌝ }
 {
-    (r.first <= r.last) & (r.last <= EOF) & (0 < r.number.0)
+    if a < b {
+        return a;
+    }
+    b
 }
 
-// Tests that every run is valid.
+// Takes the greater of two numbers.
+pub fn greater(a: u64, b: u64) -> u64
+    ensures { λ r. ⌜ r ≡ max a b ⌝ }
+{
+    if a < b {
+        return b;
+    }
+    a
+}
+
+// Tests that every run is valid: none falls, the greatest last byte is not past EOF, and the least number is at least 1.
 fn all_valid(s: &[u8]) -> bool
     requires { ⌜ runsEnd width (now s) ≤ length (now s) ⌝ }
     ensures { λ r. ⌜ r ≡ allValid (runsOf width (now (s .entry))) ⌝ }
 {
     let n = count(s);
-    let mut ok = true;
+    let mut rising = true;
+    let mut last: u64 = 0;
+    let mut number: u64 = 1;
     let mut i: usize = 0;
     while i < n {
-        ok = ok & is_valid(run_at(s, i));
+        let r = run_at(s, i);
+        rising = rising & (r.first <= r.last);
+        last = greater(last, r.last);
+        number = lesser(number, r.number.0);
         i += 1;
     }
-    ok
+    rising & (last <= EOF) & (0 < number)
 }
 
 // Tests that a run ends before the next starts, and that they differ where they touch.
 fn is_apart(r: Run, t: Run) -> bool
+    requires { ⌜ r .last ≤ eof ⌝ }
     ensures { λ b. ⌜ b ≡ leads r t ⌝ }
 {
-    if r.last < t.first {
-        return !((r.last + 1 == t.first) & (r.number.0 == t.number.0));
-    }
-    false
+    (r.last < t.first) & !((r.last + 1 == t.first) & (r.number.0 == t.number.0))
 }
 
-// Tests that the runs rise, without common bytes, and that touching ones differ.
+// Tests that valid runs rise, without common bytes, and that touching ones differ.
 fn all_apart(s: &[u8]) -> bool
-    requires { ⌜ runsEnd width (now s) ≤ length (now s) ⌝ }
+    requires { ⌜ (runsEnd width (now s) ≤ length (now s)) × (allValid (runsOf width (now s)) ≡ true) ⌝ }
     ensures { λ r. ⌜ r ≡ apart (runsOf width (now (s .entry))) ⌝ }
 {
     let n = count(s);
@@ -127,7 +145,10 @@ pub fn map_sound(s: &[u8]) -> bool
     if MAX_RUNS < n {
         return false;
     }
-    all_valid(s) & all_apart(s) & is_blank(s, 4 + 20 * n)
+    if !all_valid(s) {
+        return false;
+    }
+    all_apart(s) & is_blank(s, 4 + 20 * n)
 }
 
 // Tests whether the bytes are a sound log.

@@ -10,6 +10,7 @@ use Rattle.common.specs.Counters.{width}
 use Rattle.runs.specs.Sound.{leads, apart}
 use Rattle.runs.specs.Bytes.{runsOf}
 use Rattle.runbytes.proofs.Apart.{apart-more, apart-none}
+use Rattle.runbytes.proofs.Facts.{valid-at}
 use Rattle.runbytes.proofs.all_apart.Statement.{statement}
 use Rattle.runbytes.proofs.all_apart.Tie as tie
 
@@ -18,6 +19,11 @@ Inv-loop s n ok₀ i₀ ok i = (i ≤ n) × ((ok && apart (drop i (runsOf width 
 
 abbrev μ-loop : tie.MeasureT-loop
 μ-loop s n ok₀ i₀ ok i = n - i
+
+is-apart-requires : tie.Need-is-apart-requires Inv-loop μ-loop
+is-apart-requires c κs =
+    let o = c .before .before .before .before .before .before in
+    rw (c .before .run-at .ensures) (valid-at (now (o .args .s)) (c .before .before .before .loop .i) (omega arith) (o .pre .1) .short)
 
 loop-again : tie.Need-loop-again Inv-loop μ-loop
 loop-again c =
@@ -35,4 +41,4 @@ returns c =
 pub all-apart-spec : {M : Type 1} → statement M
 all-apart-spec =
     tie.close
-    (tie.spec Inv-loop μ-loop (λ c κs. search needs) (λ c. (omega arith, refl)) (λ c. search needs) (λ c κs. search needs) (λ c. search needs) (λ c κs. search needs) (λ c κs. search needs) (λ c. search needs) (λ c. search needs) loop-again returns)
+    (tie.spec Inv-loop μ-loop (λ c κs. search needs) (λ c. (omega arith, refl)) (λ c. search needs) (λ c κs. search needs) (λ c. search needs) (λ c κs. search needs) is-apart-requires (λ c. search needs) (λ c. search needs) loop-again returns)

@@ -1,40 +1,48 @@
 -- `all_valid`: what has passed, and the runs from place i on, decide as the whole.
-use Prim.Native.Nat.{_-_, _≤_}
+use Prim.Native.Nat.{ℕ, _-_, _≤_}
 use native.Mathlib.Omega.{arith}
 use mathlib.Core.Path.{_≡_, refl, sym, _∙_, ap}
-use mathlib.Core.Bool.{_&&_}
+use mathlib.Core.Bool.{Bool, _&&_}
+use lib.Dec.{leb, ltb}
 use lib.ListN.{drop}
 use borrow.Author.Needs.{needs}
 use denote.Ref.{now}
 use Rattle.common.specs.Counters.{width}
+use Rattle.common.specs.Ranges.{eof}
 use Rattle.common.proofs.Rests.{rest-more, rest-none}
 use Rattle.runs.specs.Owner.{run}
 use Rattle.runs.specs.Sound.{valid, allValid}
 use Rattle.runs.specs.Bytes.{runsOf}
 use Rattle.runbytes.proofs.Places.{runs-length, runs-at}
+use Rattle.runbytes.proofs.Tally.{tally}
 use Rattle.runbytes.proofs.all_valid.Statement.{statement}
 use Rattle.runbytes.proofs.all_valid.Tie as tie
 
+abbrev passed : Bool → ℕ → ℕ → Bool
+passed rising last number = (rising && leb last eof) && ltb 0 number
+
 abbrev Inv-loop : tie.InvT-loop
-Inv-loop s n ok₀ i₀ ok i = (i ≤ n) × ((ok && allValid (drop i (runsOf width s))) ≡ allValid (runsOf width s))
+Inv-loop s n rising₀ last₀ number₀ i₀ rising last number i =
+    (i ≤ n) × ((passed rising last number && allValid (drop i (runsOf width s))) ≡ allValid (runsOf width s))
 
 abbrev μ-loop : tie.MeasureT-loop
-μ-loop s n ok₀ i₀ ok i = n - i
+μ-loop s n rising₀ last₀ number₀ i₀ rising last number i = n - i
 
 loop-again : tie.Need-loop-again Inv-loop μ-loop
 loop-again c =
-    let s = now (c .before .before .before .before .before .before .args .s) in
-    let l = c .before .before .before .loop in (
+    let s = now (c .before .before .before .before .before .before .before .before .args .s) in
+    let l = c .before .before .before .before .before .loop in
+    let r = c .before .before .before .run-at in (
       omega arith,
-      rest-more valid (run 0 0 0) (runsOf width s) (l .i) _ (l .ok) _
-          (c .is-valid .ensures ∙ ap valid (c .before .run-at .ensures ∙ sym (runs-at s (l .i) (omega arith) (run 0 0 0)))) (rw (runs-length s) (omega arith)) (l .inv .1),
+      rw (tally (l .rising) (l .last) (l .number) _ _ (r .result) (c .before .greater .ensures) (c .lesser .ensures))
+          (rest-more valid (run 0 0 0) (runsOf width s) (l .i) _ (passed (l .rising) (l .last) (l .number)) _ (ap valid (r .ensures ∙ sym (runs-at s (l .i) (omega arith) (run 0 0 0)))) (rw (runs-length s) (omega arith)) (l .inv .1)),
     )
 
 returns : tie.Need-returns Inv-loop μ-loop
 returns c = let s = now (c .before .before .before .before .args .s) in
-    rest-none valid (run 0 0 0) (runsOf width s) (c .before .loop .i) _ _ (rw (runs-length s) (omega arith)) (c .before .loop .inv .1)
+    rest-none valid (run 0 0 0) (runsOf width s) (c .before .loop .i) _ (passed (c .before .loop .rising) (c .before .loop .last) (c .before .loop .number)) (rw (runs-length s) (omega arith)) (c .before .loop .inv .1)
 
 pub all-valid-spec : {M : Type 1} → statement M
 all-valid-spec =
     tie.close
-    (tie.spec Inv-loop μ-loop (λ c κs. search needs) (λ c. (omega arith, refl)) (λ c κs. search needs) (λ c κs. search needs) (λ c. search needs) (λ c. search needs) loop-again returns)
+    (tie.spec Inv-loop μ-loop (λ c κs. search needs) (λ c. (omega arith, refl)) (λ c κs. search needs) (λ c κs. search needs) (λ c κs. search needs) (λ c. search needs) (λ c. search needs) loop-again returns)

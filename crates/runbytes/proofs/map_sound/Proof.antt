@@ -1,7 +1,8 @@
 -- `map_sound`: with the length and the count tested, what is left of the rule is what the code tests.
 use native.Mathlib.Omega.{arith}
+use mathlib.Core.Path.{sym, _∙_}
 use borrow.Author.Needs.{needs}
-use borrow.Author.Tests.{eq-eqb, ne-eqb, le-leb, lt-leb}
+use borrow.Author.Tests.{eq-eqb, ne-eqb, le-leb, lt-leb, not-true, not-false}
 use denote.Ref.{now}
 use Rattle.xdr.specs.Be.{be}
 use Rattle.runs.specs.Sound.{maxRuns, soundMap}
@@ -23,9 +24,26 @@ returns-2 c =
 returns-3 : tie.Need-returns-3
 unfolding soundMapBytes soundMap
 returns-3 c =
-    let s = now (c .before .before .before .before .before .before .before .args .s) in
-    rw (eq-eqb _ _ (c .before .before .before .before .before .if1 .left), runs-length s, le-leb (be 4 s 0) maxRuns (omega arith)) (cc)
+    let s = now (c .before .before .before .before .before .before .args .s) in
+    rw (eq-eqb _ _ (c .before .before .before .before .if1 .left), runs-length s, le-leb (be 4 s 0) maxRuns (omega arith), sym (c .before .all-valid .ensures) ∙ not-true (c .before .all-valid .result) (c .if3 .taken))
+
+all-apart-requires : tie.Need-all-apart-requires
+all-apart-requires c κs = (search needs, rw (← c .before .all-valid .ensures) (not-false _ (c .if3 .left)))
+
+returns-4 : tie.Need-returns-4
+unfolding soundMapBytes soundMap
+returns-4 c =
+    let s = now (c .before .before .before .before .before .before .before .before .args .s) in
+    rw (
+      eq-eqb _ _ (c .before .before .before .before .before .before .if1 .left),
+      runs-length s,
+      le-leb (be 4 s 0) maxRuns (omega arith),
+      sym (c .before .before .before .all-valid .ensures) ∙ not-false (c .before .before .before .all-valid .result) (c .before .before .if3 .left),
+      c .is-blank .ensures,
+      c .before .all-apart .ensures,
+      c .before .before .before .before .before .count .ensures .0,
+    )
 
 pub map-sound-spec : {M : Type 1} → statement M
 map-sound-spec =
-    tie.close (tie.spec returns (search needs) returns-2 (search needs) (search needs) (search needs) (search needs) (search needs) returns-3)
+    tie.close (tie.spec returns (search needs) returns-2 (search needs) returns-3 all-apart-requires (search needs) (search needs) (search needs) returns-4)
