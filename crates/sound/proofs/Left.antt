@@ -1,13 +1,13 @@
 -- The loops: what a loop has found, with what is left of the list, is what the whole list has.
 use Prim.Native.Nat.{ℕ, suc, _+_, _-_, _≤_, _<_}
-use mathlib.Core.Bool.{Bool, true, false, _&&_, cond, and-true, and-assoc}
+use mathlib.Core.Bool.{Bool, true, false, _&&_, cond, and-true, and-false, and-assoc}
 use mathlib.Core.List.{List, [], _∷_}
 use mathlib.Core.Path.{_≡_, sym, ap, _∙_}
 use native.Mathlib.Numerals.{add-one}
 use native.Mathlib.Omega.{arith}
-use lib.Dec.{ltb}
 use lib.ListN.{length, getD, drop}
 use lib.Seq.{drop-cons}
+use borrow.Author.Tests.{lt-ltb, le-ltb}
 use Rattle.common.specs.Counters.{width}
 use Rattle.common.specs.Tests.{all, count, upFrom}
 use Rattle.table.specs.declared.Lock.{Lock}
@@ -63,12 +63,19 @@ module _ {A : Type 0} (p : A → Bool) (w k : ℕ) where
   pub count-done : {l : List A} → l ≡ [] → k + count p l ≡ w → k ≡ w
   count-done e q = let r : k + 0 ≡ w = ap (λ (y : List A). k + count p y) (sym e) ∙ q in omega arith
 
--- handles that rise from above b
-pub climbs-more : (w ok : Bool) (b h : ℕ) {l m : List Lock} (r : Lock) → l ≡ r ∷ m → h ≡ handleOf r → (ok && climbs b l) ≡ w → ((ok && ltb b h) && climbs h m) ≡ w
-unfolding climbs
-climbs-more w ok b h {m = m} r e f q =
-    and-assoc ok (ltb b h) (climbs h m) ∙ ap (λ (k : ℕ). ok && (ltb b k && climbs k m)) f ∙ ap (λ (l : List Lock). ok && climbs b l) (sym e) ∙ q
+-- a test of each record, and handles that rise from above b
+module _ (p : Lock → Bool) (w : Bool) (b : ℕ) {l m : List Lock} (r : Lock) (e : l ≡ r ∷ m) (q : (all p l && climbs b l) ≡ w) where
+  pub each-more : b < handleOf r → p r ≡ true → (all p m && climbs (handleOf r) m) ≡ w
+  unfolding climbs
+  each-more h v = rw (e, v, lt-ltb b (handleOf r) h) at q
 
-pub climbs-done : (w ok : Bool) (b : ℕ) {l : List Lock} → l ≡ [] → (ok && climbs b l) ≡ w → ok ≡ w
+  pub each-low : handleOf r ≤ b → false ≡ w
+  unfolding climbs
+  each-low h = rw (e, le-ltb b (handleOf r) h, and-false) at q
+
+  pub each-bad : p r ≡ false → false ≡ w
+  each-bad v = rw (e, v) at q
+
+pub each-done : (p : Lock → Bool) (w : Bool) (b : ℕ) {l : List Lock} → l ≡ [] → (all p l && climbs b l) ≡ w → true ≡ w
 unfolding climbs
-climbs-done w ok b e q = sym (and-true ok) ∙ ap (λ (l : List Lock). ok && climbs b l) (sym e) ∙ q
+each-done p w b e q = rw e at q

@@ -1,4 +1,5 @@
 pub mod Left
+pub mod Counts
 pub mod Handles
 pub mod Friends
 pub mod Rows

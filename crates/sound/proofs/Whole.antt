@@ -1,8 +1,8 @@
 -- `table_sound`: the parts of the test, together, are the definition's.
 use Prim.Native.Nat.{ℕ, _+_, _*_, _^_, _≤_, _<_}
-use mathlib.Core.Bool.{Bool, false, _&&_}
+use mathlib.Core.Bool.{Bool, true, false, _&&_, and-true, and-false}
 use mathlib.Core.List.{List}
-use mathlib.Core.Path.{_≡_, sym, ap, _∙_}
+use mathlib.Core.Path.{_≡_, refl, sym, ap, _∙_}
 use native.Mathlib.Omega.{arith}
 use lib.ListN.{length, drop}
 use borrow.Author.Tests.{eq-eqb, ne-eqb}
@@ -16,16 +16,23 @@ use Rattle.table.specs.Bytes.{tableSize, tableOf, locksOf, recordsEnd, soundTab
 use Rattle.table.specs.Places.{countOf}
 use Rattle.table.proofs.Facts.{sound→, →sound}
 use Rattle.table.proofs.Records.{locks-length, lasts-length}
-use Rattle.sound.specs.Parts.{friendly, climbs}
+use Rattle.sound.specs.Parts.{friendly, climbs, eachSound}
 use Rattle.sound.proofs.Handles.{alike, paired}
 
 -- the tests of the records; the others pass by themselves
 abbrev tests : Table → Bool
-tests X = (all (valid (X .issued) (X .lasts)) (X .locks) && (climbs 0 (X .locks) && pairs friendly (X .locks))) && all (room (X .issued) (X .lasts) (X .locks)) stripes
+tests X = eachSound (X .issued) X && pairs friendly (X .locks)
+
+order : (v h r f : Bool) → (((v && h) && r) && f) ≡ ((v && (h && f)) && r)
+order true true r true = and-true r ∙ refl
+order true true r false = and-false r
+order true false r f = refl
+order false h r f = refl
 
 tested : (X : Table) → X .issued ≤ highest width → length (X .lasts) ≡ stripeCount → length (X .locks) ≤ maxRecords → tests X ≡ sound X
 tested X i l n =
-    ap (λ (b : Bool). b && all (room (X .issued) (X .lasts) (X .locks)) stripes) (paired (X .issued) (X .lasts) (X .locks))
+    order (all (valid (X .issued) (X .lasts)) (X .locks)) (climbs 0 (X .locks)) (all (room (X .issued) (X .lasts) (X .locks)) stripes) (pairs friendly (X .locks))
+    ∙ ap (λ (b : Bool). b && all (room (X .issued) (X .lasts) (X .locks)) stripes) (paired (X .issued) (X .lasts) (X .locks))
     ∙ alike ((all (valid (X .issued) (X .lasts)) (X .locks) && pairs agree (X .locks)) && all (room (X .issued) (X .lasts) (X .locks)) stripes) (sound X)
     (λ t. →sound X (record {
       few = i;
@@ -48,13 +55,11 @@ module _ (t : List ℕ) (n : ℕ) (e : n ≡ countOf t) where
       alike false (soundTableBytes t) (λ z. absurd z)
       (λ s. let f = sound→ (tableOf width t) (search (and-l, and-r)) .fits in let l = locks-length t in omega arith)
 
-  pub sound-is : (i : ℕ) (v h f r z : Bool) → length t ≡ tableSize width → n ≤ 256 → i ≡ be 4 t 0 → i < 2 ^ 32
-      → v ≡ all (valid i (tableOf width t .lasts)) (locksOf width t) → h ≡ climbs 0 (locksOf width t) → f ≡ pairs friendly (locksOf width t)
-      → r ≡ all (room i (tableOf width t .lasts) (locksOf width t)) stripes → z ≡ zeros (drop (72 + 40 * n) t)
-      → (((v && (h && f)) && r) && z) ≡ soundTableBytes t
+  pub sound-is : (i : ℕ) (v f z : Bool) → length t ≡ tableSize width → n ≤ 256 → i ≡ be 4 t 0 → i < 2 ^ 32
+      → v ≡ eachSound i (tableOf width t) → f ≡ pairs friendly (locksOf width t) → z ≡ zeros (drop (72 + 40 * n) t) → ((v && f) && z) ≡ soundTableBytes t
   unfolding soundTableBytes
-  sound-is i v h f r z a m q b ev eh ef er ez =
+  sound-is i v f z a m q b ev ef ez =
       let l = locks-length t in
-      rw (ev, eh, ef, er, ez, q, e)
+      rw (ev, ef, ez, q, e)
       (ap (λ (x : Bool). x && zeros (drop (recordsEnd width t) t)) (tested (tableOf width t) (omega arith) (lasts-length t) (omega arith))
       ∙ sym (ap (λ (x : Bool). x && (sound (tableOf width t) && zeros (drop (recordsEnd width t) t))) (eq-eqb (length t) (tableSize width) a)))

@@ -5,11 +5,12 @@ ghost use mathlib.Core.Bool.{cond};
 ghost use Prim.Native.Nat.{_≤_, _<_};
 ghost use lib.ListN.{length, drop};
 ghost use Rattle.common.specs.Counters.{width};
-ghost use Rattle.common.specs.Tests.{all, pairs, count, zeros};
-ghost use Rattle.table.specs.Sound.{valid, numbered, wants, room, stripes};
+ghost use Rattle.common.specs.Tests.{all, pairs, zeros};
+ghost use Rattle.table.specs.Table.{waits};
+ghost use Rattle.table.specs.Sound.{valid, numbered, differ, room, stripes};
 ghost use Rattle.table.specs.Bytes.{tableSize, tableOf, soundTableBytes};
 ghost use Rattle.table.specs.Places.{lockAt};
-ghost use Rattle.sound.specs.Parts.{Sized, friendly, smallerYields, climbs};
+ghost use Rattle.sound.specs.Parts.{Sized, Counted, eachSound, friendly, owned, smallerYields};
 
 // The codes that the tests name.
 const PR: u64 = 1;
@@ -30,6 +31,9 @@ const MAX_STRIPE: u64 = 15;
 const STRIPES: usize = 16;
 
 const EOF: u64 = 9223372036854775807;
+
+// A number that no record has.
+const NO_NUMBER: u64 = 4294967296;
 
 // Says whether a record's number is one that it may have.
 fn is_numbered(t: &[u8], l: Lock) -> bool
@@ -55,40 +59,57 @@ fn is_valid(t: &[u8], issued: u64, l: Lock) -> bool
 {
     let handle = (1 <= l.handle.0) & (l.handle.0 <= issued);
     let range = (l.first <= l.last) & (l.last <= EOF);
-    handle
+    let fields = handle
         & (l.client <= MAX_CLIENT)
         & (l.stripe <= MAX_STRIPE)
         & modes::known_mode(l.mode)
         & modes::known_state(l.state)
-        & range
-        & is_numbered(t, l)
+        & range;
+    if !fields {
+        return false;
+    }
+    is_numbered(t, l)
 }
 
-// Says whether each record is valid by itself.
-fn each_valid(t: &[u8], n: usize, issued: u64) -> bool
-    requires { ⌜ Sized n (now t) ⌝ }
-    ensures { λ r. ⌜ r ≡ all (valid issued (tableOf width (now (t .entry)) .lasts)) (tableOf width (now (t .entry)) .locks) ⌝ }
+// Counts a test.
+fn one(b: bool) -> u64
+    ensures { λ r. ⌜ (r ≡ cond b 1 0) × (r ≤ 1) ⌝ }
+{
+    if b { 1 } else { 0 }
+}
+
+// Says whether each stripe has room for the numbers that its waiting write requests will take, so many for each stripe.
+fn rooms(t: &[u8], n: usize, issued: u64, waiters: &[u64]) -> bool
+    requires { ⌜ Sized n (now t) × Counted n (now waiters) (tableOf width (now t) .locks) ⌝ }
+    ensures { λ r. ⌜ r ≡ all (room issued (tableOf width (now (t .entry)) .lasts) (tableOf width (now (t .entry)) .locks)) stripes ⌝ }
 {
     let mut ok = true;
-    for i in 0..n {
-        ok = ok & is_valid(t, issued, table::lock_at(t, i));
+    for s in 0..STRIPES {
+        ok = ok & (table::last_of(t, s) + waiters[s] <= issued);
     }
     ok
 }
 
-// Says whether the handles rise, from above 0.
-fn rising(t: &[u8], n: usize) -> bool
+// Says whether the handles rise, each record is valid by itself and each stripe has room. It reads each record once.
+fn each_sound(t: &[u8], n: usize, issued: u64) -> bool
     requires { ⌜ Sized n (now t) ⌝ }
-    ensures { λ r. ⌜ r ≡ climbs 0 (tableOf width (now (t .entry)) .locks) ⌝ }
+    ensures { λ r. ⌜ r ≡ eachSound issued (tableOf width (now (t .entry))) ⌝ }
 {
-    let mut ok = true;
+    let mut waiters = [0u64; STRIPES];
     let mut before: u64 = 0;
     for i in 0..n {
-        let handle = xdr::u32_at(t, table::RECORDS + table::RECORD_BYTES * i);
-        ok = ok & (before < handle);
-        before = handle;
+        let l = table::lock_at(t, i);
+        if l.handle.0 <= before {
+            return false;
+        }
+        if !is_valid(t, issued, l) {
+            return false;
+        }
+        before = l.handle.0;
+        let s = l.stripe as usize;
+        waiters[s] = waiters[s] + one((l.state == WAITING) & (l.mode != PR));
     }
-    ok
+    rooms(t, n, issued, &waiters)
 }
 
 // Says whether, of a and a lock of this number, mode and state, the one with the smaller number makes way.
@@ -101,37 +122,64 @@ fn smaller_yields(a: Lock, number: u64, mode: u64, state: u64) -> bool
     ((mode == NBW) & (state == CANCELING)) & ((NBW <= a.mode) & (a.mode <= BW))
 }
 
-// Says whether a held record and the one at place j may both be there, by as few fields of that as decide.
-fn friends_at(t: &[u8], a: Lock, j: usize) -> bool
-    requires { ⌜ (length (now t) ≡ tableSize width) × (j < 256) × (a .state ≡ 0 → ⊥) ⌝ }
+// The number that no other held write lock of a's stripe may have: none for a PR lock.
+fn own_number(a: Lock) -> u64
+    ensures { λ r. ⌜ r ≡ owned a ⌝ }
+{
+    if a.mode == PR {
+        return NO_NUMBER;
+    }
+    a.number.0
+}
+
+// Says whether the record at place j, of a's stripe, has another number than the held record a, if both are write locks.
+fn differs_at(t: &[u8], a: Lock, own: u64, j: usize) -> bool
+    requires { ⌜ (length (now t) ≡ tableSize width) × (j < 256) × (a .state ≡ 0 → ⊥) × (own ≡ owned a) × (lockAt (now t) j .stripe ≡ a .stripe) ⌝ }
+    ensures { λ r. ⌜ r ≡ differ a (lockAt (now (t .entry)) j) ⌝ }
+{
+    let at = table::RECORDS + table::RECORD_BYTES * j;
+    if xdr::u32_at(t, at + table::NUMBER) != own {
+        return true;
+    }
+    (xdr::u32_at(t, at + table::STATE) == WAITING) | (xdr::u32_at(t, at + table::MODE) == PR)
+}
+
+// Says whether a held record and the one at place j may both be there. It reads stripe and range before anything else.
+fn friends_at(t: &[u8], a: Lock, own: u64, j: usize) -> bool
+    requires { ⌜ (length (now t) ≡ tableSize width) × (j < 256) × (a .state ≡ 0 → ⊥) × (own ≡ owned a) ⌝ }
     ensures { λ r. ⌜ r ≡ friendly a (lockAt (now (t .entry)) j) ⌝ }
 {
     let at = table::RECORDS + table::RECORD_BYTES * j;
     if xdr::u32_at(t, at + table::STRIPE) != a.stripe {
         return true;
     }
-    let mode = xdr::u32_at(t, at + table::MODE);
-    if (a.mode == PR) & (mode == PR) {
-        return true;
-    }
-    let number = xdr::u32_at(t, at + table::NUMBER);
-    if number == a.number.0 {
-        let meet = (a.first <= xdr::u64_at(t, at + table::LAST))
-            & (xdr::u64_at(t, at + table::FIRST) <= a.last);
-        return (xdr::u32_at(t, at + table::STATE) == WAITING)
-            | (((a.mode == PR) | (mode == PR)) & !meet);
-    }
     if a.last < xdr::u64_at(t, at + table::FIRST) {
-        return true;
+        return differs_at(t, a, own, j);
     }
     if xdr::u64_at(t, at + table::LAST) < a.first {
+        return differs_at(t, a, own, j);
+    }
+    let mode = xdr::u32_at(t, at + table::MODE);
+    if (a.mode == PR) & (mode == PR) {
         return true;
     }
     let state = xdr::u32_at(t, at + table::STATE);
     if state == WAITING {
         return true;
     }
+    let number = xdr::u32_at(t, at + table::NUMBER);
+    if number == a.number.0 {
+        return false;
+    }
     smaller_yields(a, number, mode, state)
+}
+
+// Says whether the record at place i waits.
+fn waits_at(t: &[u8], i: usize) -> bool
+    requires { ⌜ (length (now t) ≡ tableSize width) × (i < 256) ⌝ }
+    ensures { λ r. ⌜ r ≡ waits (lockAt (now (t .entry)) i) ⌝ }
+{
+    xdr::u32_at(t, table::RECORDS + table::RECORD_BYTES * i + table::STATE) == WAITING
 }
 
 // Says whether every two records may both be there. The search stops at the first pair that may not.
@@ -142,60 +190,21 @@ fn all_friends(t: &[u8], n: usize) -> bool
     let mut ok = true;
     let mut i = 0;
     'search: while i < n {
-        let a = table::lock_at(t, i);
+        let place = i;
         i += 1;
-        if a.state == WAITING {
+        if waits_at(t, place) {
             continue;
         }
+        let a = table::lock_at(t, place);
+        let own = own_number(a);
         let mut j = i;
         while j < n {
-            if !friends_at(t, a, j) {
+            if !friends_at(t, a, own, j) {
                 ok = false;
                 break 'search;
             }
             j += 1;
         }
-    }
-    ok
-}
-
-// Counts a test.
-fn one(b: bool) -> u64
-    ensures { λ r. ⌜ (r ≡ cond b 1 0) × (r ≤ 1) ⌝ }
-{
-    if b { 1 } else { 0 }
-}
-
-// Says whether the record at place i is a write request that waits for stripe s.
-fn wanting(t: &[u8], i: usize, s: u64) -> bool
-    requires { ⌜ (length (now t) ≡ tableSize width) × (i < 256) ⌝ }
-    ensures { λ r. ⌜ r ≡ wants s (lockAt (now (t .entry)) i) ⌝ }
-{
-    let at = table::RECORDS + table::RECORD_BYTES * i;
-    ((xdr::u32_at(t, at + table::STATE) == WAITING) & (xdr::u32_at(t, at + table::MODE) != PR))
-        & (xdr::u32_at(t, at + table::STRIPE) == s)
-}
-
-// Counts the write requests that wait for stripe s.
-fn waiters(t: &[u8], n: usize, s: u64) -> u64
-    requires { ⌜ Sized n (now t) ⌝ }
-    ensures { λ r. ⌜ (r ≡ count (wants s) (tableOf width (now (t .entry)) .locks)) × (r ≤ n) ⌝ }
-{
-    let mut k: u64 = 0;
-    for i in 0..n {
-        k = k + one(wanting(t, i, s));
-    }
-    k
-}
-
-// Says whether each stripe has room for the numbers that its waiting write requests will take.
-fn rooms(t: &[u8], n: usize, issued: u64) -> bool
-    requires { ⌜ Sized n (now t) ⌝ }
-    ensures { λ r. ⌜ r ≡ all (room issued (tableOf width (now (t .entry)) .lasts) (tableOf width (now (t .entry)) .locks)) stripes ⌝ }
-{
-    let mut ok = true;
-    for s in 0..STRIPES {
-        ok = ok & (table::last_of(t, s) + waiters(t, n, s as u64) <= issued);
     }
     ok
 }
@@ -225,8 +234,7 @@ pub fn table_sound(t: &[u8]) -> bool
         return false;
     }
     let issued = table::issued(t);
-    each_valid(t, n, issued)
-        & (rising(t, n) & all_friends(t, n))
-        & rooms(t, n, issued)
+    each_sound(t, n, issued)
+        & all_friends(t, n)
         & blank(t, table::RECORDS + table::RECORD_BYTES * n)
 }
