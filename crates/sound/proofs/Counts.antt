@@ -12,7 +12,7 @@ use borrow.Author.Tests.{eq-eqb}
 use Rattle.common.specs.Tests.{count}
 use Rattle.common.proofs.Bools.{never}
 use Rattle.table.specs.declared.Lock.{Lock}
-use Rattle.table.specs.Table.{waits, writes, stripeCount}
+use Rattle.table.specs.Table.{waits, writes}
 use Rattle.table.specs.Sound.{valid, wants}
 use Rattle.table.proofs.Facts.{valid→}
 use Rattle.sound.specs.Parts.{Counted}

@@ -12,7 +12,7 @@ use Rattle.common.proofs.Bools.{never}
 use Rattle.common.proofs.Order.{below}
 use Rattle.table.specs.declared.Lock.{Lock}
 use Rattle.table.specs.Table.{numberOf, waits, held, writes}
-use Rattle.table.specs.Sound.{together, yields, differ, share}
+use Rattle.table.specs.Sound.{together, yields, differ}
 use Rattle.sound.specs.Parts.{friendly, owned, smallerYields}
 
 -- two records that are together or not, write, have different numbers, meet, are clear of each other

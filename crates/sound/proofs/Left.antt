@@ -63,19 +63,19 @@ module _ {A : Type 0} (p : A → Bool) (w k : ℕ) where
   pub count-done : {l : List A} → l ≡ [] → k + count p l ≡ w → k ≡ w
   count-done e q = let r : k + 0 ≡ w = ap (λ (y : List A). k + count p y) (sym e) ∙ q in omega arith
 
--- a test of each record, and handles that rise from above b
-module _ (p : Lock → Bool) (w : Bool) (b : ℕ) {l m : List Lock} (r : Lock) (e : l ≡ r ∷ m) (q : (all p l && climbs b l) ≡ w) where
+-- a test of each record, and handles that rise from above b; with another test o of the whole
+module _ (p : Lock → Bool) (w o : Bool) (b : ℕ) {l m : List Lock} (r : Lock) (e : l ≡ r ∷ m) (q : (all p l && climbs b l) ≡ w) where
   pub each-more : b < handleOf r → p r ≡ true → (all p m && climbs (handleOf r) m) ≡ w
   unfolding climbs
   each-more h v = rw (e, v, lt-ltb b (handleOf r) h) at q
 
-  pub each-low : handleOf r ≤ b → false ≡ w
+  pub each-low : handleOf r ≤ b → false ≡ (w && o)
   unfolding climbs
-  each-low h = rw (e, le-ltb b (handleOf r) h, and-false) at q
+  each-low h = ap (λ (x : Bool). x && o) (rw (e, le-ltb b (handleOf r) h, and-false) at q)
 
-  pub each-bad : p r ≡ false → false ≡ w
-  each-bad v = rw (e, v) at q
+  pub each-bad : p r ≡ false → false ≡ (w && o)
+  each-bad v = ap (λ (x : Bool). x && o) (rw (e, v) at q)
 
-pub each-done : (p : Lock → Bool) (w : Bool) (b : ℕ) {l : List Lock} → l ≡ [] → (all p l && climbs b l) ≡ w → true ≡ w
+pub each-done : (p : Lock → Bool) (w o : Bool) (b : ℕ) {l : List Lock} (k : Bool) → k ≡ o → l ≡ [] → (all p l && climbs b l) ≡ w → k ≡ (w && o)
 unfolding climbs
-each-done p w b e q = rw e at q
+each-done p w o b k h e q = h ∙ ap (λ (x : Bool). x && o) (rw e at q)

@@ -5,3 +5,4 @@ pub mod Friends
 pub mod Rows
 pub mod Whole
 pub mod Numbers
+pub mod Fields

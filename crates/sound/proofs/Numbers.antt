@@ -1,17 +1,15 @@
--- `is_valid`: the fields, then the number, which is under one of two rules; past the sixteenth stripe there is no last number.
+-- `is_numbered`: a number is under one of two rules, and past the sixteenth stripe there is no last number.
 use Prim.Native.Nat.{ℕ, zero, suc, _<_}
 use mathlib.Core.Bool.{Bool, true, false, not, _&&_, _||_, cond, and-false}
 use mathlib.Core.List.{List}
-use mathlib.Core.Path.{_≡_, refl, sym, ap, ap₂, _∙_}
+use mathlib.Core.Path.{_≡_, refl, sym, ap, _∙_}
 use native.Mathlib.Omega.{arith}
 use lib.Dec.{leb, eqb, leb·suc-zero}
 use lib.ListN.{length, getD, List·getD-eq-default}
-use borrow.Author.Tests.{not-true, not-false}
-use Rattle.common.specs.Ranges.{within, range}
-use Rattle.modes.specs.Codes.{knownMode, knownState}
+use Rattle.common.specs.Ranges.{within}
 use Rattle.table.specs.declared.Lock.{Lock}
-use Rattle.table.specs.Table.{handleOf, numberOf, maxClient, maxStripe, stripeCount}
-use Rattle.table.specs.Sound.{numbered, valid}
+use Rattle.table.specs.Table.{numberOf, stripeCount}
+use Rattle.table.specs.Sound.{numbered}
 
 module _ (ls : List ℕ) (l : Lock) where
   abbrev counts : Bool
@@ -38,16 +36,3 @@ module _ (ls : List ℕ) (l : Lock) where
       none : (x : ℕ) → within 1 x 0 ≡ false
       none zero = refl
       none (suc x) = ap (λ (b : Bool). leb 1 (suc x) && b) (leb·suc-zero x) ∙ and-false (leb 1 (suc x))
-
--- the fields but the number, of a known mode and state or not
-module _ (issued : ℕ) (ls : List ℕ) (l : Lock) (m s : Bool) (em : m ≡ knownMode (l .mode)) (es : s ≡ knownState (l .state)) where
-  abbrev plain : Bool → Bool → Bool
-  plain m s = within 1 (handleOf l) issued && leb (l .client) maxClient && leb (l .stripe) maxStripe && m && s && range (l .first) (l .last)
-
-  pub wrong-field : not (plain m s) ≡ true → false ≡ valid issued ls l
-  unfolding valid
-  wrong-field h = ap (λ (x : Bool). x && numbered ls l) (sym (not-true _ h) ∙ ap₂ plain em es)
-
-  pub right-fields : (n : Bool) → n ≡ numbered ls l → not (plain m s) ≡ false → n ≡ valid issued ls l
-  unfolding valid
-  right-fields n en h = en ∙ ap (λ (x : Bool). x && numbered ls l) (sym (not-false _ h) ∙ ap₂ plain em es)

@@ -24,7 +24,7 @@ abbrev tests : Table → Bool
 tests X = eachSound (X .issued) X && pairs friendly (X .locks)
 
 order : (v h r f : Bool) → (((v && h) && r) && f) ≡ ((v && (h && f)) && r)
-order true true r true = and-true r ∙ refl
+order true true r true = and-true r
 order true true r false = and-false r
 order true false r f = refl
 order false h r f = refl

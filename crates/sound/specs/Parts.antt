@@ -5,7 +5,7 @@ use mathlib.Core.Path.{_≡_}
 use mathlib.Core.List.{List, [], _∷_}
 use lib.Dec.{ltb, eqb}
 use lib.ListN.{length, getD, drop}
-use Rattle.common.specs.Counters.{width}
+use Rattle.common.specs.Counters.{width, highest}
 use Rattle.common.specs.Ranges.{within}
 use Rattle.common.specs.Tests.{all, count}
 use Rattle.modes.specs.Codes.{pr, nbw, bw, canceling}
@@ -38,7 +38,7 @@ eachSound issued t = (all (valid issued (t .lasts)) (t .locks) && climbs 0 (t .l
 
 -- the number that no other held write lock of its stripe may have; a PR lock has none, and no number is as high
 abbrev pub owned : Lock → ℕ
-owned a = cond (eqb (a .mode) pr) 4294967296 (numberOf a)
+owned a = cond (eqb (a .mode) pr) (highest width + 1) (numberOf a)
 
 -- what two records are to each other, but for their handles
 unfoldable pub friendly : Lock → Lock → Bool

@@ -78,7 +78,7 @@ fn one(b: bool) -> u64
     if b { 1 } else { 0 }
 }
 
-// Says whether each stripe has room for the numbers that its waiting write requests will take, so many for each stripe.
+// Says whether each stripe has room for the numbers that its waiting write requests, waiters[s] for stripe s, will take.
 fn rooms(t: &[u8], n: usize, issued: u64, waiters: &[u64]) -> bool
     requires { ⌜ Sized n (now t) × Counted n (now waiters) (tableOf width (now t) .locks) ⌝ }
     ensures { λ r. ⌜ r ≡ all (room issued (tableOf width (now (t .entry)) .lasts) (tableOf width (now (t .entry)) .locks)) stripes ⌝ }
@@ -132,7 +132,7 @@ fn own_number(a: Lock) -> u64
     a.number.0
 }
 
-// Says whether the record at place j, of a's stripe, has another number than the held record a, if both are write locks.
+// Says whether the record at place j, of a's stripe, has another number than the held record a, if both are held write locks.
 fn differs_at(t: &[u8], a: Lock, own: u64, j: usize) -> bool
     requires { ⌜ (length (now t) ≡ tableSize width) × (j < 256) × (a .state ≡ 0 → ⊥) × (own ≡ owned a) × (lockAt (now t) j .stripe ≡ a .stripe) ⌝ }
     ensures { λ r. ⌜ r ≡ differ a (lockAt (now (t .entry)) j) ⌝ }
@@ -144,7 +144,7 @@ fn differs_at(t: &[u8], a: Lock, own: u64, j: usize) -> bool
     (xdr::u32_at(t, at + table::STATE) == WAITING) | (xdr::u32_at(t, at + table::MODE) == PR)
 }
 
-// Says whether a held record and the one at place j may both be there. It reads stripe and range before anything else.
+// Says whether the held record a and the one at place j may both be there. It reads stripe and range before anything else.
 fn friends_at(t: &[u8], a: Lock, own: u64, j: usize) -> bool
     requires { ⌜ (length (now t) ≡ tableSize width) × (j < 256) × (a .state ≡ 0 → ⊥) × (own ≡ owned a) ⌝ }
     ensures { λ r. ⌜ r ≡ friendly a (lockAt (now (t .entry)) j) ⌝ }

@@ -2,14 +2,14 @@
 use borrow.Author.Needs.{needs}
 use borrow.Author.Tests.{not-true, not-false}
 use native.Mathlib.Omega.{arith}
-use mathlib.Core.Path.{_≡_, refl, sym, ap, subst, _∙_}
-use mathlib.Core.Bool.{Bool, _&&_}
+use mathlib.Core.Path.{_≡_, refl, sym, subst, _∙_}
+use mathlib.Core.Bool.{true, _&&_}
 use Prim.Native.Nat.{ℕ, _-_, _≤_}
 use denote.Ref.{now}
 use lib.ListN.{drop}
 use Rattle.common.specs.Counters.{width}
 use Rattle.common.specs.Tests.{all}
-use Rattle.table.specs.Sound.{valid, room, stripes}
+use Rattle.table.specs.Sound.{valid}
 use Rattle.table.specs.Bytes.{tableOf, locksOf}
 use Rattle.sound.specs.Parts.{Counted, climbs}
 use Rattle.sound.proofs.Left.{records-from, records-end, each-more, each-low, each-bad, each-done}
@@ -33,23 +33,16 @@ returns : tie.Need-returns Inv-loop μ-loop
 returns c =
     let l = c .before .before .before .before in
     let s = l .before .before in
-    let t = now (s .args .t) in
-    let X = tableOf width t in
     let a = c .before .before .lock-at in
-    ap (λ (x : Bool). x && all (room (s .args .issued) (X .lasts) (X .locks)) stripes)
-    (each-low (valid (s .args .issued) (X .lasts)) _ (l .loop .before) (a .result)
-    (records-from (s .args .n) (l .loop .i) t (s .pre) (a .result) (omega arith) (a .ensures .0)) (l .loop .inv .1) (c .if1 .taken))
+    each-low _ _ _ _ (a .result) (records-from (s .args .n) (l .loop .i) (now (s .args .t)) (s .pre) (a .result) (omega arith) (a .ensures .0)) (l .loop .inv .1) (c .if1 .taken)
 
 returns-2 : tie.Need-returns-2 Inv-loop μ-loop
 returns-2 c =
     let l = c .before .before .before .before .before .before in
     let s = l .before .before in
-    let t = now (s .args .t) in
-    let X = tableOf width t in
     let a = c .before .before .before .before .lock-at in
-    ap (λ (x : Bool). x && all (room (s .args .issued) (X .lasts) (X .locks)) stripes)
-    (each-bad (valid (s .args .issued) (X .lasts)) _ (l .loop .before) (a .result)
-    (records-from (s .args .n) (l .loop .i) t (s .pre) (a .result) (omega arith) (a .ensures .0)) (l .loop .inv .1) (sym (c .before .is-valid .ensures) ∙ not-true _ (c .if2 .taken)))
+    each-bad _ _ _ _ (a .result) (records-from (s .args .n) (l .loop .i) (now (s .args .t)) (s .pre) (a .result) (omega arith) (a .ensures .0)) (l .loop .inv .1)
+    (sym (c .before .is-valid .ensures) ∙ not-true _ (c .if2 .taken))
 
 array-read-waiters : tie.Need-array-read-waiters Inv-loop μ-loop
 array-read-waiters c = has-count _ _ _ (sym (c .before .is-valid .ensures) ∙ not-false _ (c .if2 .left))
@@ -68,14 +61,12 @@ loop-again : tie.Need-loop-again Inv-loop μ-loop
 loop-again c =
     let l = c .before .before .before .before .before .before .before .before .before in
     let s = l .before .before in
-    let t = now (s .args .t) in
-    let X = tableOf width t in
     let a = c .before .before .before .before .before .before .before .lock-at in
-    let f = records-from (s .args .n) (l .loop .i) t (s .pre) (a .result) (omega arith) (a .ensures .0) in
+    let f = records-from (s .args .n) (l .loop .i) (now (s .args .t)) (s .pre) (a .result) (omega arith) (a .ensures .0) in
     let v = sym (c .before .before .before .before .is-valid .ensures) ∙ not-false _ (c .before .before .before .if2 .left) in (
       omega arith,
-      each-more (valid (s .args .issued) (X .lasts)) _ (l .loop .before) (a .result) f (l .loop .inv .1) (c .before .before .before .before .before .if1 .left) v,
-      one-more (l .loop .waiters) (locksOf width t) (a .result) (c .one .result) (l .loop .i) (l .loop .inv .2) f (has-count _ _ _ v) (c .one .ensures .0) (c .one .ensures .1),
+      each-more _ _ true _ (a .result) f (l .loop .inv .1) (c .before .before .before .before .before .if1 .left) v,
+      one-more _ _ (a .result) _ (l .loop .i) (l .loop .inv .2) f (has-count _ _ _ v) (c .one .ensures .0) (c .one .ensures .1),
     )
 
 rooms-requires : tie.Need-rooms-requires Inv-loop μ-loop
@@ -89,11 +80,7 @@ returns-3 : tie.Need-returns-3 Inv-loop μ-loop
 returns-3 c =
     let l = c .before .before .before in
     let s = l .before .before in
-    let t = now (s .args .t) in
-    let X = tableOf width t in
-    c .rooms .ensures
-    ∙ ap (λ (x : Bool). x && all (room (s .args .issued) (X .lasts) (X .locks)) stripes)
-    (each-done (valid (s .args .issued) (X .lasts)) _ (l .loop .before) (records-end (s .args .n) (l .loop .i) t (s .pre) (omega arith)) (l .loop .inv .1))
+    each-done _ _ _ _ _ (c .rooms .ensures) (records-end (s .args .n) (l .loop .i) (now (s .args .t)) (s .pre) (omega arith)) (l .loop .inv .1)
 
 pub each-sound-spec : {M : Type 1} → statement M
 each-sound-spec =

@@ -1,5 +1,4 @@
 -- `friends_at`: each return has read the fields that decide.
-use native.Mathlib.Omega.{arith}
 use mathlib.Core.Path.{sym, _∙_}
 use Rattle.xdr.specs.Layout.{fields}
 use Rattle.table.specs.Places.{lockAt}

@@ -1,5 +1,5 @@
--- `is_valid`: the chain of tests is the definition unfolded.
-use Rattle.sound.proofs.Numbers.{wrong-field, right-fields}
+-- `is_valid`: the fields, and then the number, are the definition's.
+use Rattle.sound.proofs.Fields.{wrong-field, right-fields}
 use borrow.Author.Needs.{needs}
 use Rattle.sound.proofs.is_valid.Statement.{statement}
 use Rattle.sound.proofs.is_valid.Tie as tie
