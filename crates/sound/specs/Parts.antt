@@ -8,7 +8,7 @@ use lib.ListN.{length, getD, drop}
 use Rattle.common.specs.Counters.{width, highest}
 use Rattle.common.specs.Ranges.{within}
 use Rattle.common.specs.Tests.{all, count}
-use Rattle.modes.specs.Codes.{pr, nbw, bw, canceling}
+use Rattle.modes.specs.Codes.{waiting, pr, nbw, bw, canceling}
 use Rattle.table.specs.declared.Lock.{Lock}
 use Rattle.table.specs.Table.{Table, handleOf, numberOf, stripeCount, maxRecords}
 use Rattle.table.specs.Sound.{valid, differ, share, wants, room, stripes}
@@ -39,6 +39,13 @@ eachSound issued t = (all (valid issued (t .lasts)) (t .locks) && climbs 0 (t .l
 -- the number that no other held write lock of its stripe may have; a PR lock has none, and no number is as high
 abbrev pub owned : Lock → ℕ
 owned a = cond (eqb (a .mode) pr) (highest width + 1) (numberOf a)
+
+-- a held record a with the number that it owns, and place j of a table's bytes
+pub record Beside (a : Lock) (own j : ℕ) (t : List ℕ) : Type 0 where
+  pub size : length t ≡ tableSize width
+  pub place : j < maxRecords
+  pub held : a .state ≡ waiting → ⊥
+  pub owns : own ≡ owned a
 
 -- what two records are to each other, but for their handles
 unfoldable pub friendly : Lock → Lock → Bool

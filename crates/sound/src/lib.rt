@@ -10,7 +10,7 @@ ghost use Rattle.table.specs.Table.{waits};
 ghost use Rattle.table.specs.Sound.{valid, numbered, differ, room, stripes};
 ghost use Rattle.table.specs.Bytes.{tableSize, tableOf, soundTableBytes};
 ghost use Rattle.table.specs.Places.{lockAt};
-ghost use Rattle.sound.specs.Parts.{Sized, Counted, eachSound, friendly, owned, smallerYields};
+ghost use Rattle.sound.specs.Parts.{Sized, Counted, Beside, eachSound, friendly, owned, smallerYields};
 
 // The codes that the tests name.
 const PR: u64 = 1;
@@ -134,7 +134,7 @@ fn own_number(a: Lock) -> u64
 
 // Says whether the record at place j, of a's stripe, has another number than the held record a, if both are held write locks.
 fn differs_at(t: &[u8], a: Lock, own: u64, j: usize) -> bool
-    requires { ⌜ (length (now t) ≡ tableSize width) × (j < 256) × (a .state ≡ 0 → ⊥) × (own ≡ owned a) × (lockAt (now t) j .stripe ≡ a .stripe) ⌝ }
+    requires { ⌜ Beside a own j (now t) × (lockAt (now t) j .stripe ≡ a .stripe) ⌝ }
     ensures { λ r. ⌜ r ≡ differ a (lockAt (now (t .entry)) j) ⌝ }
 {
     let at = table::RECORDS + table::RECORD_BYTES * j;
@@ -146,7 +146,7 @@ fn differs_at(t: &[u8], a: Lock, own: u64, j: usize) -> bool
 
 // Says whether the held record a and the one at place j may both be there. It reads stripe and range before anything else.
 fn friends_at(t: &[u8], a: Lock, own: u64, j: usize) -> bool
-    requires { ⌜ (length (now t) ≡ tableSize width) × (j < 256) × (a .state ≡ 0 → ⊥) × (own ≡ owned a) ⌝ }
+    requires { ⌜ Beside a own j (now t) ⌝ }
     ensures { λ r. ⌜ r ≡ friendly a (lockAt (now (t .entry)) j) ⌝ }
 {
     let at = table::RECORDS + table::RECORD_BYTES * j;

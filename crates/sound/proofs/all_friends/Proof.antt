@@ -64,9 +64,14 @@ search-again-2 c =
 
 friends-at-requires : tie.Need-friends-at-requires Inv-loop μ-loop Inv-search μ-search
 friends-at-requires c κs =
-    let l = c .before in
-    let s = l .before .before .before .before .before .before .before .before in
-    (s .pre .size, omega arith, is-held _ _ (c .before .before .before .lock-at .ensures .0) (sym (c .before .before .before .before .before .waits-at .ensures) ∙ c .before .before .before .before .if1 .left), c .before .before .own-number .ensures)
+    let s = c .before .before .before .before .before .before .before .before .before in
+    let m = s .pre .most in
+    record {
+      size = s .pre .size;
+      place = omega arith;
+      held = is-held _ _ (c .before .before .before .lock-at .ensures .0) (sym (c .before .before .before .before .before .waits-at .ensures) ∙ c .before .before .before .before .if1 .left);
+      owns = c .before .before .own-number .ensures;
+    }
 
 loop-again : tie.Need-loop-again Inv-loop μ-loop Inv-search μ-search
 loop-again c =

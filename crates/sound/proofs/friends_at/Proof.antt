@@ -14,8 +14,7 @@ returns c = other-stripe _ _ _ (c .before .before .u32-at .ensures .0) (c .if1 .
 differs-at-requires : tie.Need-differs-at-requires
 unfolding lockAt fields
 differs-at-requires c κs =
-    let p = c .before .before .before .before .before .before .before .pre in
-    (p .0, p .1, p .2, p .3, sym (c .before .before .before .before .before .u32-at .ensures .0) ∙ c .before .before .before .if1 .left)
+    (c .before .before .before .before .before .before .before .pre, sym (c .before .before .before .before .before .u32-at .ensures .0) ∙ c .before .before .before .if1 .left)
 
 returns-2 : tie.Need-returns-2
 unfolding lockAt fields
@@ -24,8 +23,7 @@ returns-2 c = c .differs-at .ensures ∙ behind _ _ _ (c .before .before .before
 differs-at-requires-2 : tie.Need-differs-at-requires-2
 unfolding lockAt fields
 differs-at-requires-2 c κs =
-    let p = c .before .before .before .before .before .before .before .before .before .before .pre in
-    (p .0, p .1, p .2, p .3, sym (c .before .before .before .before .before .before .before .before .u32-at .ensures .0) ∙ c .before .before .before .before .before .before .if1 .left)
+    (c .before .before .before .before .before .before .before .before .before .before .pre, sym (c .before .before .before .before .before .before .before .before .u32-at .ensures .0) ∙ c .before .before .before .before .before .before .if1 .left)
 
 returns-3 : tie.Need-returns-3
 unfolding lockAt fields
@@ -47,7 +45,7 @@ returns-6 c =
     let c3 = c4 .before .before .before in
     let c2 = c3 .before .before .before in
     let c1 = c2 .before .before .before in
-    one-number _ _ _ (c1 .before .before .u32-at .ensures .0) (c1 .if1 .left) (c1 .before .before .before .before .pre .2) _ _ _ _ _
+    one-number _ _ _ (c1 .before .before .u32-at .ensures .0) (c1 .if1 .left) (c1 .before .before .before .before .pre .held) _ _ _ _ _
     (c4 .before .before .u32-at2 .ensures .0) (c .before .before .u32-at4 .ensures .0) (c5 .before .u32-at3 .ensures .0) (c2 .before .before .u64-at .ensures .0) (c3 .before .before .u64-at2 .ensures .0)
     (c2 .if2 .left) (c3 .if3 .left) (c4 .if4 .left) (c5 .if5 .left) (c .if6 .taken)
 
@@ -61,7 +59,7 @@ returns-7 c =
     let c2 = c3 .before .before .before in
     let c1 = c2 .before .before .before in
     c .smaller-yields .ensures
-    ∙ one-of-two _ _ _ (c1 .before .before .u32-at .ensures .0) (c1 .if1 .left) (c1 .before .before .before .before .pre .2) _ _ _ _ _
+    ∙ one-of-two _ _ _ (c1 .before .before .u32-at .ensures .0) (c1 .if1 .left) (c1 .before .before .before .before .pre .held) _ _ _ _ _
     (c4 .before .before .u32-at2 .ensures .0) (c6 .before .before .u32-at4 .ensures .0) (c5 .before .u32-at3 .ensures .0) (c2 .before .before .u64-at .ensures .0) (c3 .before .before .u64-at2 .ensures .0)
     (c2 .if2 .left) (c3 .if3 .left) (c4 .if4 .left) (c5 .if5 .left) (c6 .if6 .left)
 
