@@ -2,21 +2,13 @@
 use Prim.Native.Nat.{ℕ, zero, suc, _+_, _≤_, _<_}
 use native.Mathlib.Omega.{arith}
 use native.Mathlib.Numerals.{add-one}
-use mathlib.Core.Bool.{Bool, true, false, _&&_}
+use mathlib.Core.Bool.{Bool, true, _&&_, and-true, and-assoc}
 use mathlib.Core.List.{List, [], _∷_}
-use mathlib.Core.Path.{_≡_, refl, sym, _∙_}
+use mathlib.Core.Path.{_≡_, sym, _∙_}
 use lib.ListN.{length, getD, drop, drop-of-length-le}
 use lib.Seq.{drop-cons}
 use Rattle.common.specs.Tests.{all}
 use Rattle.common.proofs.Bools.{and-left, and-right}
-
-pub and-assoc : (a b c : Bool) → ((a && b) && c) ≡ (a && (b && c))
-and-assoc true b c = refl
-and-assoc false b c = refl
-
-pub and-true : (a : Bool) → (a && true) ≡ a
-and-true true = refl
-and-true false = refl
 
 module _ {A : Type 0} (p : A → Bool) (d : A) (xs : List A) (i : ℕ) (whole ok : Bool) where
   pub rest-more : (t : Bool) → t ≡ p (getD xs i d) → i < length xs → (ok && all p (drop i xs)) ≡ whole → ((ok && t) && all p (drop (i + 1) xs)) ≡ whole

@@ -2,9 +2,6 @@
 ghost use mathlib.Core.Path.{_≡_};
 ghost use Rattle.stripe.specs.Refusals.{misplaced, misnumbered};
 
-// The highest number that 4 bytes hold.
-const HIGHEST: u64 = 4294967295;
-
 // Tests whether a piece has length 0, or lies past the image or past EOF.
 pub fn is_misplaced(first: u64, len: u64, image: u64) -> bool
     ensures { λ r. ⌜ r ≡ misplaced first len image ⌝ }
@@ -18,12 +15,12 @@ pub fn is_misplaced(first: u64, len: u64, image: u64) -> bool
     if image - len < first {
         return true;
     }
-    runbytes::EOF < first + (len - 1)
+    common::EOF < first + (len - 1)
 }
 
 // Tests whether a number is 0, or above the highest.
 pub fn is_misnumbered(number: u64) -> bool
     ensures { λ r. ⌜ r ≡ misnumbered number ⌝ }
 {
-    (number == 0) | (HIGHEST < number)
+    (number == 0) | (common::HIGHEST < number)
 }

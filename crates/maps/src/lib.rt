@@ -93,7 +93,7 @@ fn start_at(map: &[u8], i: usize) -> u64
     if i < runbytes::count(map) {
         return runbytes::run_at(map, i).first;
     }
-    runbytes::EOF + 1
+    common::EOF + 1
 }
 
 // Keeps the runs before place i of a sound map; the last of them is pending.
@@ -161,14 +161,14 @@ fn opened(x: u64, v: View) -> View
     if v.end <= x {
         return View {
             age: 0,
-            end: runbytes::EOF + 1,
-            stop: runbytes::EOF + 1,
+            end: common::EOF + 1,
+            stop: common::EOF + 1,
         };
     }
     View {
         age: v.age,
         end: v.end,
-        stop: runbytes::EOF + 1,
+        stop: common::EOF + 1,
     }
 }
 
@@ -233,7 +233,7 @@ pub fn rebuilt(out: &mut [u8], log: &[u8]) -> usize
         end: 0,
         stop: 0,
     };
-    while p.x <= runbytes::EOF {
+    while p.x <= common::EOF {
         v = look(log, p.x, v);
         p = pen::push(out, p, runbytes::lesser(v.end, v.stop), v.age);
     }

@@ -4,6 +4,23 @@ ghost use Prim.Native.Nat.{_≤_};
 ghost use Rattle.modes.specs.Codes.{modeOf, stateOf, knownMode, knownState};
 ghost use Rattle.modes.specs.Conflict.{conflict};
 
+// The codes of the modes and of the states.
+pub const PR: u64 = 1;
+
+pub const NBW: u64 = 2;
+
+pub const BW: u64 = 3;
+
+pub const PW: u64 = 4;
+
+pub const WAITING: u64 = 0;
+
+pub const GRANTED: u64 = 1;
+
+pub const ASKED: u64 = 2;
+
+pub const CANCELING: u64 = 3;
+
 // The four modes, and Unknown for any other code.
 pub enum Mode {
     Pr,
@@ -73,9 +90,6 @@ pub fn known_state(code: u64) -> bool
         State::Unknown => false,
     }
 }
-
-// The state code that the third kind of entry asks for.
-const CANCELING: u64 = 3;
 
 // The entries of table II: no conflict, conflict, conflict unless canceling.
 const NEVER: u8 = 0;

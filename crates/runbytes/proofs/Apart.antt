@@ -2,11 +2,10 @@
 use Prim.Native.Nat.{ℕ, _+_, _≤_, _<_}
 use native.Mathlib.Omega.{arith}
 use mathlib.Core.Path.{_≡_, refl, sym, _∙_}
-use mathlib.Core.Bool.{Bool, true, _&&_}
+use mathlib.Core.Bool.{Bool, true, _&&_, and-true, and-assoc}
 use mathlib.Core.List.{List, [], _∷_}
 use lib.ListN.{length, drop, length-drop}
 use Rattle.common.specs.Counters.{width}
-use Rattle.common.proofs.Rests.{and-assoc, and-true}
 use Rattle.xdr.specs.Be.{be}
 use Rattle.runs.specs.declared.Run.{Run}
 use Rattle.runs.specs.Sound.{leads, apart}

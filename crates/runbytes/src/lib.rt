@@ -4,10 +4,9 @@ use runs::Run;
 ghost use mathlib.Core.Path.{_≡_};
 ghost use mathlib.Core.Bool.{true};
 ghost use Prim.Native.Nat.{_+_, _≤_, _<_, _^_, min, max};
-ghost use lib.ListN.{length, drop};
+ghost use lib.ListN.{length};
 ghost use Rattle.common.specs.Counters.{width};
 ghost use Rattle.common.specs.Ranges.{eof};
-ghost use Rattle.common.specs.Tests.{zeros};
 ghost use Rattle.xdr.specs.Be.{be};
 ghost use Rattle.xdr.specs.Layout.{putFields};
 ghost use Rattle.xdr.specs.Array.{element};
@@ -15,9 +14,7 @@ ghost use Rattle.runs.specs.Sound.{allValid, leads, apart};
 ghost use Rattle.runs.specs.Bytes.{runLayout, runFields, runsOf, runsEnd, soundMapBytes, soundLogBytes};
 ghost use Rattle.runbytes.specs.Places.{runAt};
 
-// The document's numbers: EOF, the most runs and entries, and the bytes of a map and of a log.
-pub const EOF: u64 = 9223372036854775807;
-
+// The most runs and entries, and the bytes of a map and of a log.
 pub const MAX_RUNS: usize = 1024;
 
 pub const MAX_ENTRIES: usize = 2048;
@@ -95,7 +92,7 @@ fn all_valid(s: &[u8]) -> bool
         number = lesser(number, r.number.0);
         i += 1;
     }
-    rising & (last <= EOF) & (0 < number)
+    rising & (last <= common::EOF) & (0 < number)
 }
 
 // Tests that a run ends before the next starts, and that they differ where they touch.
@@ -121,19 +118,6 @@ fn all_apart(s: &[u8]) -> bool
     ok
 }
 
-// Tests that the bytes from `from` on are zeros.
-fn is_blank(s: &[u8], from: usize) -> bool
-    ensures { λ r. ⌜ r ≡ zeros (drop from (now (s .entry))) ⌝ }
-{
-    let mut ok = true;
-    let mut i = from;
-    while i < s.len() {
-        ok = ok & (s[i] == 0);
-        i += 1;
-    }
-    ok
-}
-
 // Tests whether the bytes are a sound map.
 pub fn map_sound(s: &[u8]) -> bool
     ensures { λ r. ⌜ r ≡ soundMapBytes (now (s .entry)) ⌝ }
@@ -148,7 +132,7 @@ pub fn map_sound(s: &[u8]) -> bool
     if !all_valid(s) {
         return false;
     }
-    all_apart(s) & is_blank(s, 4 + 20 * n)
+    all_apart(s) & common::is_blank(s, 4 + 20 * n)
 }
 
 // Tests whether the bytes are a sound log.

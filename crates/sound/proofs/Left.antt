@@ -5,8 +5,7 @@ use mathlib.Core.List.{List, [], _∷_}
 use mathlib.Core.Path.{_≡_, sym, ap, _∙_}
 use native.Mathlib.Numerals.{add-one}
 use native.Mathlib.Omega.{arith}
-use lib.ListN.{length, getD, drop}
-use lib.Seq.{drop-cons}
+use lib.ListN.{drop}
 use borrow.Author.Tests.{lt-ltb, le-ltb}
 use Rattle.common.specs.Counters.{width}
 use Rattle.common.specs.Tests.{all, count, upFrom}
@@ -18,16 +17,13 @@ use Rattle.table.specs.Places.{lockAt}
 use Rattle.table.proofs.Records.{locks-from, locks-end}
 use Rattle.sound.specs.Parts.{Sized, climbs}
 
--- what is left of the records, of a list of bytes, of the stripes
+-- what is left of the records, of the stripes
 module _ (n i : ℕ) (t : List ℕ) (S : Sized n t) where
   pub records-from : (r : Lock) → i < n → r ≡ lockAt t i → drop i (locksOf width t) ≡ r ∷ drop (i + 1) (locksOf width t)
   records-from r h e = rw e (locks-from t i (let c = S .count in omega arith))
 
   pub records-end : n ≤ i → drop i (locksOf width t) ≡ []
   records-end h = locks-end t i (let c = S .count in omega arith)
-
-pub bytes-from : (t : List ℕ) (i : ℕ) → i < length t → drop i t ≡ getD t i 0 ∷ drop (i + 1) t
-bytes-from t i h = rw add-one (drop-cons t i 0 h)
 
 abbrev pub stripesFrom : ℕ → List ℕ
 stripesFrom s = upFrom s (stripeCount - s)

@@ -1,39 +1,28 @@
 // Says whether a lock table's bytes are sound, by every rule of document 01.
+use common::EOF;
+use modes::BW;
+use modes::CANCELING;
+use modes::NBW;
+use modes::PR;
+use modes::WAITING;
 use table::Lock;
+use table::MAX_CLIENT;
+use table::MAX_STRIPE;
+use table::STRIPES;
 ghost use mathlib.Core.Path.{_≡_};
 ghost use mathlib.Core.Bool.{cond};
 ghost use Prim.Native.Nat.{_≤_, _<_};
-ghost use lib.ListN.{length, drop};
+ghost use lib.ListN.{length};
 ghost use Rattle.common.specs.Counters.{width};
-ghost use Rattle.common.specs.Tests.{all, pairs, zeros};
+ghost use Rattle.common.specs.Tests.{all, pairs};
 ghost use Rattle.table.specs.Table.{waits};
 ghost use Rattle.table.specs.Sound.{valid, numbered, differ, room, stripes};
 ghost use Rattle.table.specs.Bytes.{tableSize, tableOf, soundTableBytes};
 ghost use Rattle.table.specs.Places.{lockAt};
 ghost use Rattle.sound.specs.Parts.{Sized, Counted, Beside, eachSound, friendly, owned, smallerYields};
 
-// The codes that the tests name.
-const PR: u64 = 1;
-
-const NBW: u64 = 2;
-
-const BW: u64 = 3;
-
-const WAITING: u64 = 0;
-
-const CANCELING: u64 = 3;
-
-// The highest client, stripe and byte, and how many stripes there are.
-const MAX_CLIENT: u64 = 63;
-
-const MAX_STRIPE: u64 = 15;
-
-const STRIPES: usize = 16;
-
-const EOF: u64 = 9223372036854775807;
-
 // A number that no record has.
-const NO_NUMBER: u64 = 4294967296;
+const NO_NUMBER: u64 = common::HIGHEST + 1;
 
 // Says whether a record's number is one that it may have.
 fn is_numbered(t: &[u8], l: Lock) -> bool
@@ -209,19 +198,6 @@ fn all_friends(t: &[u8], n: usize) -> bool
     ok
 }
 
-// Says whether the bytes from `from` on are zeros. It reads them all, many at once.
-fn blank(t: &[u8], from: usize) -> bool
-    ensures { λ r. ⌜ r ≡ zeros (drop from (now (t .entry))) ⌝ }
-{
-    let mut ok = true;
-    let mut i = from;
-    while i < t.len() {
-        ok = ok & (t[i] == 0);
-        i += 1;
-    }
-    ok
-}
-
 // Says whether the bytes are a sound table, as refusal 2 asks.
 pub fn table_sound(t: &[u8]) -> bool
     ensures { λ r. ⌜ r ≡ soundTableBytes (now (t .entry)) ⌝ }
@@ -236,5 +212,5 @@ pub fn table_sound(t: &[u8]) -> bool
     let issued = table::issued(t);
     each_sound(t, n, issued)
         & all_friends(t, n)
-        & blank(t, table::RECORDS + table::RECORD_BYTES * n)
+        & common::is_blank(t, table::RECORDS + table::RECORD_BYTES * n)
 }

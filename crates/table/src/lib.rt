@@ -16,6 +16,13 @@ pub const TABLE_BYTES: usize = 10312;
 
 pub const MAX_RECORDS: usize = 256;
 
+// The highest client and stripe, and how many stripes there are.
+pub const MAX_CLIENT: u64 = 63;
+
+pub const MAX_STRIPE: u64 = 15;
+
+pub const STRIPES: usize = 16;
+
 // Where the last numbers, the count and the records stand, and how many bytes a last number and a record have.
 const LASTS: usize = 4;
 

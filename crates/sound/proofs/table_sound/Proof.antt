@@ -11,7 +11,7 @@ returns-3 c =
     let n = c .before .before .before .before .before .count in
     let i = c .before .before .before .issued in
     sound-is (now (s .args .t)) (n .result) (n .ensures) (i .result) _ _ _ (c .before .before .before .before .before .before .if1 .left) (c .before .before .before .before .if2 .left) (i .ensures .0) (i .ensures .1)
-    (c .before .before .each-sound .ensures) (c .before .all-friends .ensures) (c .blank .ensures)
+    (c .before .before .each-sound .ensures) (c .before .all-friends .ensures) (c .is-blank .ensures)
 
 pub table-sound-spec : {M : Type 1} → statement M
 table-sound-spec =

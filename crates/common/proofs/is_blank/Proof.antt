@@ -7,10 +7,10 @@ use lib.Dec.{eqb}
 use lib.ListN.{length, drop}
 use borrow.Author.Needs.{needs}
 use denote.Ref.{now}
 use Rattle.common.specs.Tests.{zeros}
 use Rattle.common.proofs.Rests.{rest-more, rest-none}
-use Rattle.runbytes.proofs.is_blank.Statement.{statement}
-use Rattle.runbytes.proofs.is_blank.Tie as tie
+use Rattle.common.proofs.is_blank.Statement.{statement}
+use Rattle.common.proofs.is_blank.Tie as tie
 
 abbrev Inv-loop : tie.InvT-loop
 Inv-loop s from ok₀ i₀ ok i = (ok && zeros (drop i s)) ≡ zeros (drop from s)
