@@ -10,7 +10,6 @@ use lib.ListN.{length}
 use borrow.Author.Tests.{ltb-false, leb-true, eqb-true, eqb-false, lt-leb}
 use Rattle.locks.specs.declared.Message.{Message}
 use Rattle.locks.specs.declared.Message.the-variants.{Acknowledge, Downgrade, Release}
-use Rattle.line.specs.declared.Read.{Read}
 use Rattle.line.specs.declared.Read.the-variants.{Bad, Good}
 use Rattle.line.specs.Format.{Reading, right, wrong, largest, digitOf, readDigits, readNumber, readField}
 use Rattle.line.specs.Format.{after, numbers, readFields, requesting, naming, byLetter, longest, readLine}

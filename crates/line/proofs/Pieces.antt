@@ -1,18 +1,22 @@
 -- Piece after piece gives the lines of the whole input: a cut may fall anywhere, within a line or within its break.
-use Prim.Native.Nat.{ℕ, _+_, _≤_, _<_}
+use Prim.Native.Nat.{ℕ, _+_, _<_}
 use Prim.Native.Char.{code}
-use mathlib.Core.Path.{_≡_, refl, sym, ap, _∙_}
+use mathlib.Core.Path.{_≡_, refl, ap, _∙_}
 use mathlib.Core.Bool.{Bool, true, false, cond}
-use mathlib.Core.List.{List, [], _∷_, _++_}
-use mathlib.Core.Logic.{inl}
+use mathlib.Core.List.{List, [], _∷_, _++_, map, map-append, append-assoc, append-nil}
 use native.Mathlib.Numerals.{add-one}
 use lib.Dec.{eqb}
-use lib.ListN.{length, getD, drop, drop-of-length-le}
-use lib.Seq.{drop-cons}
+use lib.ListN.{length, getD, take}
+use lib.Seq.{take-suc}
 use borrow.Author.Tests.{ne-eqb}
-use Rattle.line.specs.Lines.{bare, linesFrom, linesIn, left, linesOver, joined}
-use Rattle.line.specs.Buffers.{Keeping, Leaving}
+use Rattle.table.specs.Table.{Table}
+use Rattle.line.specs.declared.Read.{Read}
+use Rattle.line.specs.Format.{readLine}
+use Rattle.line.specs.Lines.{bare, linesFrom, linesIn, left}
+use Rattle.line.specs.Session.{next, answers, tableAfter, writtenFrom, saidIn}
+use Rattle.line.specs.Buffers.{Keeps, Gathered}
 
+-- the lines of s and t are those that end in s, and then those of t behind what s leaves
 pub lines-cut : (p s t : List ℕ) → linesFrom p (s ++ t) ≡ linesIn p s ++ linesFrom (left p s) t
 unfolding linesFrom linesIn left
 lines-cut p [] t = refl
@@ -28,25 +32,82 @@ lines-cut p (b ∷ s) t = go (eqb b (code "\n")) (lines-cut [] s t) (lines-cut (
     go true u v = ap (λ ls. bare p ∷ ls) u
     go false u v = v
 
-pub lines-over : (p : List ℕ) (cs : List (List ℕ)) → linesOver p cs ≡ linesFrom p (joined cs)
-unfolding linesOver joined
-lines-over p [] = refl
-lines-over p (c ∷ cs) = ap (λ ls. linesIn p c ++ ls) (lines-over (left p c) cs) ∙ sym (lines-cut p c (joined cs))
+pub lines-join : (p s t : List ℕ) → linesIn p (s ++ t) ≡ linesIn p s ++ linesIn (left p s) t
+unfolding linesIn left
+lines-join p [] t = refl
+lines-join p (b ∷ s) t = go (eqb b (code "\n")) (lines-join [] s t) (lines-join (p ++ (b ∷ [])) s t)
+  where
+    q : List ℕ
+    q = p ++ (b ∷ [])
 
--- a piece from its place i on: the byte there, and then the piece from the next place on
-module _ (s : List ℕ) (i : ℕ) where
-  pub leaving-end : {b : List ℕ} {n : ℕ} → length s ≤ i → Leaving (drop i s) b n b n
-  unfolding left
-  leaving-end h = record { keeps = λ p k. rw (drop-of-length-le s h) k }
+    go : (x : Bool) → linesIn [] (s ++ t) ≡ linesIn [] s ++ linesIn (left [] s) t
+        → linesIn q (s ++ t) ≡ linesIn q s ++ linesIn (left q s) t
+        → cond x (bare p ∷ linesIn [] (s ++ t)) (linesIn q (s ++ t))
+        ≡ cond x (bare p ∷ linesIn [] s) (linesIn q s) ++ linesIn (cond x (left [] s) (left q s)) t
+    go true u v = ap (λ ls. bare p ∷ ls) u
+    go false u v = v
 
-  module _ (h : i < length s) {before after : List ℕ} {n r : ℕ} where
-    pub leaving-break : getD s i 0 ≡ code "\n" → Leaving (drop (i + 1) s) before 0 after r → Leaving (drop i s) before n after r
-    unfolding left
-    leaving-break e u = record { keeps = λ p k. rw (drop-cons s i 0, e) (rw add-one at (u .keeps [] (inl refl))) }
+pub left-join : (p s t : List ℕ) → left p (s ++ t) ≡ left (left p s) t
+unfolding left
+left-join p [] t = refl
+left-join p (b ∷ s) t = go (eqb b (code "\n")) (left-join [] s t) (left-join (p ++ (b ∷ [])) s t)
+  where
+    q : List ℕ
+    q = p ++ (b ∷ [])
 
-    pub leaving-byte : {mid : List ℕ} {m : ℕ} → (getD s i 0 ≡ code "\n" → ⊥) → Keeping (getD s i 0) before n mid m
-        → Leaving (drop (i + 1) s) mid m after r → Leaving (drop i s) before n after r
-    unfolding left
-    leaving-byte e g u =
-        let b = getD s i 0 in
-        record { keeps = λ p k. rw (drop-cons s i 0, ne-eqb b (code "\n") e) (rw add-one at (u .keeps (p ++ (b ∷ [])) (g .keeps p k))) }
+    go : (x : Bool) → left [] (s ++ t) ≡ left (left [] s) t → left q (s ++ t) ≡ left (left q s) t
+        → cond x (left [] (s ++ t)) (left q (s ++ t)) ≡ left (cond x (left [] s) (left q s)) t
+    go true u v = u
+    go false u v = v
+
+-- no line ends in s behind p, and q is kept of the line so far
+pub record Within (p s q : List ℕ) : Type 0 where
+  pub none : linesIn p s ≡ []
+  pub keeps : Keeps q (left p s)
+
+pub within-none : (p q : List ℕ) → Keeps q p → Within p [] q
+unfolding linesIn left
+within-none p q k = record { none = refl; keeps = k }
+
+pub within-all : {p s q : List ℕ} → Within p s q → Gathered p s q false
+within-all {p} {s} w = record { line = left p s; keeps = w .keeps; ends = w .none; rest = refl }
+
+-- one byte more of the piece s
+module _ (p s : List ℕ) (i : ℕ) (h : i < length s) {q : List ℕ} (w : Within p (take i s) q) where
+  pub within-byte : {l : List ℕ} → (getD s i 0 ≡ code "\n" → ⊥) → Keeps l (left p (take i s) ++ (getD s i 0 ∷ [])) → Within p (take (i + 1) s) l
+  unfolding linesIn left
+  within-byte e k =
+      let b = getD s i 0 in
+      record {
+        none = rw (add-one, take-suc s i 0 h, lines-join p (take i s) (b ∷ []), ne-eqb b (code "\n") e) (rw append-nil (w .none));
+        keeps = rw (add-one, take-suc s i 0 h, left-join p (take i s) (b ∷ []), ne-eqb b (code "\n") e) k;
+      }
+
+  pub within-break : getD s i 0 ≡ code "\n" → Gathered p (take (i + 1) s) q true
+  unfolding linesIn left
+  within-break e =
+      record {
+        line = left p (take i s);
+        keeps = w .keeps;
+        ends = rw (add-one, take-suc s i 0 h, lines-join p (take i s) (getD s i 0 ∷ []), e, w .none);
+        rest = rw (add-one, take-suc s i 0 h, left-join p (take i s) (getD s i 0 ∷ []), e);
+      }
+
+-- what is answered to some lines and then to others
+pub answers-join : (t : Table) (rs qs : List Read) → answers t (rs ++ qs) ≡ answers t rs ++ answers (tableAfter t rs) qs
+answers-join t [] qs = refl
+answers-join t (r ∷ rs) qs = rw (append-assoc, answers-join (next t r) rs qs)
+
+pub table-join : (t : Table) (rs qs : List Read) → tableAfter t (rs ++ qs) ≡ tableAfter (tableAfter t rs) qs
+table-join t [] qs = refl
+table-join t (r ∷ rs) qs = table-join (next t r) rs qs
+
+-- what is written for s and t: the answers to the lines that end in s, and what is written for t behind what s leaves
+pub written-cut : (x : Table) (p s t : List ℕ) → writtenFrom x p (s ++ t) ≡ answers x (saidIn p s) ++ writtenFrom (tableAfter x (saidIn p s)) (left p s) t
+written-cut x p s t =
+    ap (λ ls. answers x (map readLine ls)) (lines-cut p s t)
+    ∙ ap (answers x) (map-append readLine (linesIn p s) (linesFrom (left p s) t))
+    ∙ answers-join x (saidIn p s) (map readLine (linesFrom (left p s) t))
+
+pub said-join : (p s t : List ℕ) → saidIn p (s ++ t) ≡ saidIn p s ++ saidIn (left p s) t
+said-join p s t = ap (λ ls. map readLine ls) (lines-join p s t) ∙ map-append readLine (linesIn p s) (linesIn (left p s) t)

@@ -8,7 +8,7 @@ use lib.ListN.{length, take, set, length-append, length-take, length-set}
 use lib.Seq.{take-suc-set}
 use Rattle.xdr.specs.Tab.{tab}
 use Rattle.xdr.proofs.Tabs.{tab-snoc}
-use Rattle.line.specs.Text.{decimal, fieldsText, eventText, eventsText, lineSize}
+use Rattle.line.specs.Text.{fieldsText, eventText, eventsText, lineSize}
 use Rattle.line.specs.Buffers.{Wrote}
 
 pub wrote-byte : (out : List ℕ) (at b : ℕ) → at < length out → Wrote 1 out (set out at b) at (at + 1) (b ∷ [])

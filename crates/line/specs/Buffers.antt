@@ -1,5 +1,5 @@
 -- What the code's places in byte buffers mean.
-use Prim.Native.Nat.{ℕ, _+_, _≤_}
+use Prim.Native.Nat.{ℕ, _+_, _≤_, _<_}
 use mathlib.Core.Path.{_≡_}
 use mathlib.Core.Bool.{Bool, cond}
 use mathlib.Core.List.{List, [], _∷_, _++_}
@@ -12,8 +12,9 @@ use Rattle.xdr.specs.Tab.{tab}
 use Rattle.locks.specs.Events.{eventLayout}
 use Rattle.line.specs.declared.Spot.{Spot}
 use Rattle.line.specs.declared.Read.{Read}
+use Rattle.line.specs.declared.Scan.{Scan}
 use Rattle.line.specs.Format.{Reading, longest, readLine}
-use Rattle.line.specs.Lines.{bare, left}
+use Rattle.line.specs.Lines.{bare, linesIn, left}
 
 -- What a spot says of the line s
 abbrev pub reading : List ℕ → Spot → Reading
@@ -32,9 +33,19 @@ pub record Keeping (b : ℕ) (before : List ℕ) (n : ℕ) (after : List ℕ) (r
 abbrev pub Saying : Bool → List ℕ → ℕ → Read → Type 0
 Saying last buffer n r = (p : List ℕ) → Keeps (take n buffer) p → r ≡ readLine (cond last p (bare p))
 
--- Whatever line the first n bytes of the buffer keep, the first r then keep what the piece s leaves of a line
-pub record Leaving (s before : List ℕ) (n : ℕ) (after : List ℕ) (r : ℕ) : Type 0 where
-  pub keeps : (p : List ℕ) → Keeps (take n before) p → Keeps (take r after) (left p s)
+-- In the piece s, behind p, a line ends at the last byte, or none does; the bytes q are kept of it
+pub record Gathered (p s q : List ℕ) (whole : Bool) : Type 0 where
+  pub line : List ℕ
+  pub keeps : Keeps q line
+  pub ends : linesIn p s ≡ cond whole (bare line ∷ []) []
+  pub rest : left p s ≡ cond whole [] line
+
+-- Whatever line the first n bytes of the buffer keep, the piece s is gathered behind it up to r's place
+pub record Gathers (s before : List ℕ) (n : ℕ) (after : List ℕ) (r : Scan) : Type 0 where
+  pub within : r .at ≤ length s
+  pub onward : 0 < length s → 0 < r .at
+  pub room : r .kept ≤ length before
+  pub gathered : (p : List ℕ) → Keeps (take n before) p → Gathered p (take (r .at) s) (take (r .kept) after) (r .whole)
 
 -- A text of at most `most` bytes is put at `at`, behind what stands in front of it, and r is the place after it
 pub record Wrote (most : ℕ) (before after : List ℕ) (at r : ℕ) (text : List ℕ) : Type 0 where

@@ -23,12 +23,3 @@ linesIn p (b ∷ s) = cond (eqb b (code "\n")) (bare p ∷ linesIn [] s) (linesI
 unfoldable pub left : List ℕ → List ℕ → List ℕ
 left p [] = p
 left p (b ∷ s) = cond (eqb b (code "\n")) (left [] s) (left (p ++ (b ∷ [])) s)
-
--- The lines of an input that comes in pieces, and the whole input
-unfoldable pub linesOver : List ℕ → List (List ℕ) → List (List ℕ)
-linesOver p [] = linesFrom p []
-linesOver p (c ∷ cs) = linesIn p c ++ linesOver (left p c) cs
-
-unfoldable pub joined : List (List ℕ) → List ℕ
-joined [] = []
-joined (c ∷ cs) = c ++ joined cs

@@ -11,7 +11,7 @@ ghost use Rattle.locks.specs.Events.{eventLayout};
 ghost use Rattle.line.specs.Format.{wrong, digitOf, readDigits, readNumber, readField, ended, longest, readLine};
 ghost use Rattle.line.specs.Text.{decimal, fieldsText, lineBreak, badText, answerText, kindLetter, eventText, outcomeText};
 ghost use Rattle.line.specs.Text.{lineSize, outcomeSize};
-ghost use Rattle.line.specs.Buffers.{reading, Keeping, Saying, Wrote, eventAt, eventsIn};
+ghost use Rattle.line.specs.Buffers.{reading, Keeping, Saying, Gathers, Wrote, eventAt, eventsIn};
 
 // What a line says.
 pub enum Read {
@@ -176,6 +176,39 @@ pub fn keep(line: &mut [u8], n: usize, b: u8) -> usize
         return n + 1;
     }
     n
+}
+
+// Where gathering a line stands: how many bytes of the piece it took, how many of the line are kept, and whether the line's break was met.
+pub struct Scan {
+    pub at: usize,
+    pub kept: usize,
+    pub whole: bool,
+}
+
+// Gathers the bytes of a piece up to the end of a line, or all of them. The first `kept` bytes of `line` are kept already.
+pub fn gather(piece: &[u8], line: &mut [u8], kept: usize) -> Scan
+    requires { ⌜ (longest + 2 ≤ length (now line)) × (kept ≤ length (now line)) ⌝ }
+    ensures { λ r. ⌜ Gathers (now (piece .entry)) (now (line .entry)) kept (now (line .exit)) r ⌝ }
+{
+    let mut i = 0;
+    let mut n = kept;
+    while i < piece.len() {
+        let b = piece[i];
+        i += 1;
+        if b == b'\n' {
+            return Scan {
+                at: i,
+                kept: n,
+                whole: true,
+            };
+        }
+        n = keep(line, n, b);
+    }
+    Scan {
+        at: i,
+        kept: n,
+        whole: false,
+    }
 }
 
 // Reads the line of which n bytes are kept; `last` says that it lacks its break.

@@ -1,5 +1,4 @@
 -- `give_up`: at its length nothing is left of a line.
-use mathlib.Core.Path.{ap}
 use lib.Seq.{drop-length}
 use Rattle.line.proofs.give_up.Statement.{statement}
 use Rattle.line.proofs.give_up.Tie as tie
