@@ -5,8 +5,10 @@ archive = target/staticlib/libgilboreth.a
 test:
 	@tools/test
 
+# Serves the lines of standard input; proves and builds the program first, unless nothing changed.
 run:
-	@tools/missing run 'the line program'
+	@rt check lockline </dev/null >&2
+	@tools/lockline
 
 bench:
 	@tools/bench
