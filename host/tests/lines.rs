@@ -1,9 +1,16 @@
-//! The line program's reading of lines, good and bad.
+//! The line program's reading of lines, good and bad: the model's, and the program's beside it.
+
+mod piped;
 
 use gilboreth_host::model::line::line;
+use piped::{written, written_in_pieces};
 
+/// What the model answers, and the program too, by one read for all or one for each byte.
 fn answers(input: &[u8]) -> String {
-    String::from_utf8(line(input)).unwrap()
+    let output = line(input);
+    assert!(written(input) == output);
+    assert!(written_in_pieces(&input.chunks(1).collect::<Vec<_>>()) == output);
+    String::from_utf8(output).unwrap()
 }
 
 /// A release on the empty table is refused with 9, and shows that the line was good.
