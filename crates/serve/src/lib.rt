@@ -141,8 +141,7 @@ fn find(t: &[u8], n: usize, h: u64) -> usize
     ensures { λ r. ⌜ First (has h) n (locksOf width (now (t .entry))) r ⌝ }
 {
     for i in 0..n {
-        let r = table::lock_at(t, i);
-        if r.handle.0 == h {
+        if settle::handle_at(t, i) == h {
             return i;
         }
     }

@@ -19,13 +19,13 @@ use Rattle.table.specs.declared.Lock.{Lock}
 use Rattle.table.specs.Table.{Table, blank, numberOf, held, writes}
 use Rattle.table.specs.Sound.{valid, room, wants}
 use Rattle.table.specs.Bytes.{locksOf, tableOf}
-use Rattle.table.specs.Places.{FitsTable, Holds, withLock}
+use Rattle.table.specs.Places.{lockAt, FitsTable, Holds, withLock}
 use Rattle.table.proofs.Facts.{Valid, valid→, Sound, sound→}
 use Rattle.locks.specs.Conflicts.{hurries}
 use Rattle.locks.specs.Settle.{Settled, grantEvent, given, widest, nextNumber, lastsAfter, grant, free, granting, turn}
 use Rattle.locks.proofs.Turn.{w-valid-here, grant-sound}
 use Rattle.settle.specs.Posts.{Good, moded, Fair, grantedAs, Took, Due, putEvents, fresh, Did}
-use Rattle.settle.proofs.Scan.{inside}
+use Rattle.settle.proofs.Scan.{inside, nth-is}
 
 -- a record of a sound table fits
 pub fits : (issued : ℕ) (lasts : List ℕ) (before : List Lock) (r : Lock) (after : List Lock) → Sound issued lasts (before ++ (r ∷ after)) → FitsTable r
@@ -61,13 +61,13 @@ unfolding grant
 number-is lasts rs w =
     by-cond (λ (g : Lock). numberOf g ≡ nextNumber lasts w) (any (hurries w) rs) (given w canceling (nextNumber lasts w) (w .last)) (given w granted (nextNumber lasts w) (widest w eof rs)) (λ u. refl) (λ u. refl)
 
--- what w becomes, by the answer b
-module _ (rs : List Lock) (w : Lock) (v : ℕ) (b : Bool) (e : b ≡ any (hurries w) rs) where
+-- what w, read as x, becomes, by the answer b
+module _ (rs : List Lock) (w x : Lock) (v : ℕ) (b : Bool) (f : w ≡ x) (e : b ≡ any (hurries x) rs) where
   pub as-early : (r : Lock) → b ≡ true → r ≡ given w canceling v (w .last) → r ≡ grantedAs rs w v
-  as-early r f q = rw (← e, f) q
+  as-early r g q = rw (f, ← e, g, ← f) q
 
-  pub as-wide : (r : Lock) (l : ℕ) → b ≡ false → l ≡ widest w eof rs → r ≡ given w granted v l → r ≡ grantedAs rs w v
-  as-wide r l f p q = rw (← e, f, ← p) q
+  pub as-wide : (r : Lock) (l : ℕ) → b ≡ false → l ≡ widest x eof rs → r ≡ given w granted v l → r ≡ grantedAs rs w v
+  as-wide r l g p q = rw (f, ← e, g, ← p, ← f) q
 
 module _ (n i : ℕ) (w : Lock) (t : List ℕ) (D : Due n i w t) where
   abbrev lasts : List ℕ
@@ -94,9 +94,6 @@ module _ (n i : ℕ) (w : Lock) (t : List ℕ) (D : Due n i w t) where
   pub due-stripe : w .stripe < 16
   due-stripe = let v = valid-here in omega arith
 
-  pub due-moded : T (moded w)
-  due-moded = let v = valid-here in search (and-i, le→leb)
-
   due-fits : FitsTable (grant lasts rs w)
   due-fits =
       subst (λ (l : List Lock). FitsTable (grant lasts l w)) (sym split)
@@ -113,6 +110,9 @@ module _ (n i : ℕ) (w : Lock) (t : List ℕ) (D : Due n i w t) where
 
     pub due-fair : Fair n u
     due-fair = record { shape = K .table .shape; modes = subst (λ (l : List Lock). T (all moded l)) (sym same-locks) (good-fair n t (D .good) .modes) }
+
+    pub due-here : w ≡ lockAt u i
+    due-here = sym (D .is) ∙ ap (λ (l : List Lock). getD l i blank) (sym same-locks) ∙ nth-is n i u (lockAt u i) (K .table .shape) (D .place) refl
 
     module _ (q : g ≡ grantedAs (locksOf width u) w v) where
       as-granted : g ≡ grant lasts rs w

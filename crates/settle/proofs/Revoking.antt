@@ -14,7 +14,7 @@ use Rattle.common.proofs.Order.{eq→eqb}
 use Rattle.common.proofs.Scans.{none-imp}
 use Rattle.modes.specs.Codes.{granted}
 use Rattle.table.specs.declared.Lock.{Lock}
-use Rattle.table.specs.Table.{nth, waits, numberOf}
+use Rattle.table.specs.Table.{waits, numberOf}
 use Rattle.table.specs.Bytes.{locksOf, tableOf}
 use Rattle.table.specs.Places.{lockAt, FitsTable, Shape, Holds, withLock}
 use Rattle.locks.specs.Conflicts.{conflicts}
@@ -31,32 +31,32 @@ rests r x e = ap (λ (b : Bool). b && conflicts x r) e
 pub none-press : (n i : ℕ) (rs : List Lock) (r : Lock) → Past waits n rs i → Past (presses r) n rs i
 none-press n i rs r s = record { most = s .most; none = none-imp waits (presses r) (rests r) (take i rs) (s .none) }
 
--- one place: r, the record at place i
-module _ (n i : ℕ) (t : List ℕ) (r : Lock) (S : Shape n t) (h : i < n) (e : r ≡ lockAt t i) where
+-- one place
+module _ (n i : ℕ) (t : List ℕ) (S : Shape n t) (h : i < n) where
   abbrev rs : List Lock
   rs = locksOf width t
 
-  is-r : nth (tableOf width t) i ≡ r
-  is-r = nth-is n i t r S h e
+  abbrev r : Lock
+  r = lockAt t i
 
   spared : (k : ℕ) (b : List ℕ) → wanted rs r ≡ false → Did n k (revokeAt i (tableOf width t)) b k t b
   unfolding revokeAt
-  spared k b f = rw (is-r, f) (did-none n k t b S)
+  spared k b f = rw (nth-is n i t r S h refl, f) (did-none n k t b S)
 
-  pub revoke-other : (k : ℕ) (b : List ℕ) → (r .state ≡ 1 → ⊥) → Did n k (revokeAt i (tableOf width t)) b k t b
-  revoke-other k b z = spared k b (ap (λ (x : Bool). x && any (presses r) rs) (ne-eqb (r .state) 1 z))
+  pub revoke-other : (s k : ℕ) (b : List ℕ) → s ≡ r .state → (s ≡ 1 → ⊥) → Did n k (revokeAt i (tableOf width t)) b k t b
+  revoke-other s k b e z = spared k b (ap (λ (x : Bool). x && any (presses r) rs) (ne-eqb (r .state) 1 (λ f. z (e ∙ f))))
 
   module _ (x : Bool) (p : x ≡ any (presses r) rs) where
     pub revoke-free : (k : ℕ) (b : List ℕ) → not x ≡ true → Did n k (revokeAt i (tableOf width t)) b k t b
     revoke-free k b q = spared k b (ap (λ (y : Bool). eqb (r .state) granted && y) (sym p ∙ not-true x q) ∙ and-false (eqb (r .state) granted))
 
-    pub revoke-wanted : r .state ≡ 1 → not x ≡ false → FitsTable r → Wanted n i r t
-    revoke-wanted z q f = record {
+    pub revoke-wanted : (s : ℕ) (v : Lock) → s ≡ r .state → s ≡ 1 → not x ≡ false → v ≡ r → FitsTable v → Wanted n i v t
+    revoke-wanted s v e z q f g = record {
       shape = S;
       place = h;
-      is = is-r;
-      fits = f;
-      wanted = and-i (eqb (r .state) granted) (any (presses r) rs) (eq→eqb (r .state) 1 z) (subst T (sym (sym p ∙ not-false x q)) tt);
+      is = nth-is n i t v S h f;
+      fits = g;
+      wanted = rw f (and-i (eqb (r .state) granted) (any (presses r) rs) (eq→eqb (r .state) 1 (sym e ∙ z)) (subst T (sym (sym p ∙ not-false x q)) tt));
     }
 
 pub revoke-room : (n i k : ℕ) (r : Lock) (t : List ℕ) → Wanted n i r t → k + length (revokeAt i (tableOf width t) .events) ≤ 256 → k < 256

@@ -5,9 +5,10 @@ use native.Mathlib.Numerals.{add-one}
 use mathlib.Core.Bool.{Bool, true, false}
 use mathlib.Core.List.{List}
 use mathlib.Core.Path.{_≡_, sym, ap, subst, _∙_}
-use lib.Dec.{T}
+use lib.Dec.{T, eqb}
 use lib.ListN.{length, getD}
 use lib.Seq.{take-all}
+use borrow.Author.Tests.{eq-eqb, ne-eqb}
 use Rattle.common.specs.Counters.{width}
 use Rattle.common.specs.Tests.{any}
 use Rattle.common.proofs.Scans.{none-more, some-here, all-here}
@@ -21,33 +22,44 @@ use Rattle.settle.specs.Posts.{Fair, moded, Past, First}
 pub inside : (n i : ℕ) (t : List ℕ) → Shape n t → i < n → i < length (locksOf width t)
 inside n i t S h = let l = locks-length t in let c = S .count in omega arith
 
--- r is the record at place i, and b what it answers
-module _ (n i : ℕ) (t : List ℕ) (r : Lock) where
-  pub nth-is : Shape n t → i < n → r ≡ lockAt t i → getD (locksOf width t) i blank ≡ r
-  nth-is S h e = locks-at t i (let c = S .count in omega arith) ∙ sym e
+-- r is the record at place i
+pub nth-is : (n i : ℕ) (t : List ℕ) (r : Lock) → Shape n t → i < n → r ≡ lockAt t i → getD (locksOf width t) i blank ≡ r
+nth-is n i t r S h e = locks-at t i (let c = S .count in omega arith) ∙ sym e
 
-  pub scan-hit : (p : Lock → Bool) (b : Bool) → Shape n t → i < n → r ≡ lockAt t i → b ≡ p r → b ≡ true → true ≡ any p (locksOf width t)
-  scan-hit p b S h e f g = sym (some-here p blank (locksOf width t) i (inside n i t S h) (ap p (nth-is S h e) ∙ sym f ∙ g))
+-- the record at place i answers b
+module _ (n i : ℕ) (t : List ℕ) where
+  here : Shape n t → i < n → getD (locksOf width t) i blank ≡ lockAt t i
+  here S h = locks-at t i (let c = S .count in omega arith)
 
-  pub scan-on : (p : Lock → Bool) → Shape n t → i < n → r ≡ lockAt t i → p r ≡ false → Past p n (locksOf width t) i → Past p n (locksOf width t) (i + 1)
-  scan-on p S h e f s = record {
-    most = omega arith;
-    none = rw add-one (none-more p blank (locksOf width t) i (inside n i t S h) (s .none) (ap p (nth-is S h e) ∙ f));
-  }
+  pub mode-known : Fair n t → i < n → T (moded (lockAt t i))
+  mode-known F h = subst (λ (x : Lock). T (moded x)) (here (F .shape) h) (all-here moded blank (locksOf width t) i (inside n i t (F .shape) h) (F .modes))
 
-  pub scan-miss : (p : Lock → Bool) (b : Bool) → Shape n t → i < n → r ≡ lockAt t i → b ≡ p r → b ≡ false → Past p n (locksOf width t) i → Past p n (locksOf width t) (i + 1)
-  scan-miss p b S h e f g s = scan-on p S h e (sym f ∙ g) s
+  module _ (p : Lock → Bool) where
+    pub scan-hit : (b : Bool) → Shape n t → i < n → b ≡ p (lockAt t i) → b ≡ true → true ≡ any p (locksOf width t)
+    scan-hit b S h f g = sym (some-here p blank (locksOf width t) i (inside n i t S h) (ap p (here S h) ∙ sym f ∙ g))
 
-  pub mode-at : Fair n t → i < n → r ≡ lockAt t i → T (moded r)
-  mode-at F h e = subst (λ (x : Lock). T (moded x)) (nth-is (F .shape) h e) (all-here moded blank (locksOf width t) i (inside n i t (F .shape) h) (F .modes))
+    pub scan-on : Shape n t → i < n → p (lockAt t i) ≡ false → Past p n (locksOf width t) i → Past p n (locksOf width t) (i + 1)
+    scan-on S h f s = record {
+      most = omega arith;
+      none = rw add-one (none-more p blank (locksOf width t) i (inside n i t S h) (s .none) (ap p (here S h) ∙ f));
+    }
 
-pub scan-end : (n i : ℕ) (t : List ℕ) (p : Lock → Bool) → Shape n t → n ≤ i → Past p n (locksOf width t) i → false ≡ any p (locksOf width t)
-scan-end n i t p S h s =
-    sym (s .none) ∙ ap (any p) (take-all i (locksOf width t) (let l = locks-length t in let c = S .count in omega arith))
+    pub scan-miss : (b : Bool) → Shape n t → i < n → b ≡ p (lockAt t i) → b ≡ false → Past p n (locksOf width t) i → Past p n (locksOf width t) (i + 1)
+    scan-miss b S h f g s = scan-on S h (sym f ∙ g) s
 
--- the first to answer yes, or none
-pub scan-first : (n i : ℕ) (t : List ℕ) (r : Lock) (p : Lock → Bool) → Shape n t → i < n → r ≡ lockAt t i → p r ≡ true → Past p n (locksOf width t) i → First p n (locksOf width t) i
-scan-first n i t r p S h e f s = record { past = s; here = λ k. subst T (sym (ap p (nth-is n i t r S h e) ∙ f)) tt }
+    pub scan-end : Shape n t → n ≤ i → Past p n (locksOf width t) i → false ≡ any p (locksOf width t)
+    scan-end S h s = sym (s .none) ∙ ap (any p) (take-all i (locksOf width t) (let l = locks-length t in let c = S .count in omega arith))
+
+    -- the first to answer yes, or none
+    pub scan-first : Shape n t → i < n → p (lockAt t i) ≡ true → Past p n (locksOf width t) i → First p n (locksOf width t) i
+    scan-first S h f s = record { past = s; here = λ k. subst T (sym (ap p (here S h) ∙ f)) tt }
+
+-- a field x, read as v, is k or is not
+pub reads : (v x k : ℕ) → v ≡ x → v ≡ k → eqb x k ≡ true
+reads v x k e f = eq-eqb x k (sym e ∙ f)
+
+pub reads-not : (v x k : ℕ) → v ≡ x → (v ≡ k → ⊥) → eqb x k ≡ false
+reads-not v x k e f = ne-eqb x k (λ g. f (e ∙ g))
 
 pub scan-none : (n i : ℕ) (rs : List Lock) (p : Lock → Bool) → n ≤ i → Past p n rs i → First p n rs n
 scan-none n i rs p h s = let q : i ≡ n = omega (arith, s .most) in record { past = rw q at s; here = λ k. absurd (let z : ⊥ = omega arith in z) }

@@ -1,38 +1,71 @@
 -- What the tests of the code come to: a test that is asked only where another holds is their conjunction.
 use Prim.Native.Nat.{ℕ, _-_, _≤_, _<_, min}
 use native.Mathlib.Omega.{arith}
-use mathlib.Core.Bool.{Bool, true, false, not, _&&_, cond}
+use mathlib.Core.Bool.{Bool, true, false, not, _&&_, _||_, cond}
 use mathlib.Core.Path.{_≡_, refl, sym, ap, _∙_}
-use lib.Dec.{T, leb, eqb, leb→le}
+use lib.Dec.{T, leb, ltb, eqb, leb→le}
 use borrow.Author.Tests.{not-true, not-false, leb-true, leb-false}
 use Rattle.common.proofs.Bools.{and-l, and-r, never}
 use Rattle.table.specs.declared.Lock.{Lock}
+use Rattle.table.specs.Table.{handleOf, waits, held}
 use Rattle.modes.specs.Conflict.{conflict}
-use Rattle.locks.specs.Conflicts.{other, against}
-use Rattle.locks.specs.Settle.{ahead}
-use Rattle.settle.specs.Posts.{moded}
+use Rattle.locks.specs.Conflicts.{other, against, conflicts, obstacle, hurries}
+use Rattle.locks.specs.Settle.{ahead, presses}
+use Rattle.settle.specs.Posts.{moded, near, cutBy}
 
-pub mode-lo : (r : Lock) → T (moded r) → 1 ≤ r .mode
-mode-lo r t = leb→le 1 (r .mode) (and-l (leb 1 (r .mode)) (leb (r .mode) 4) t)
+-- a known mode, read as v
+module _ (r : Lock) (v : ℕ) (e : v ≡ r .mode) (t : T (moded r)) where
+  pub mode-lo : 1 ≤ v
+  mode-lo = rw e (leb→le 1 (r .mode) (and-l (leb 1 (r .mode)) (leb (r .mode) 4) t))
 
-pub mode-hi : (r : Lock) → T (moded r) → r .mode ≤ 4
-mode-hi r t = leb→le (r .mode) 4 (and-r (leb 1 (r .mode)) (leb (r .mode) 4) t)
+  pub mode-hi : v ≤ 4
+  mode-hi = rw e (leb→le (r .mode) 4 (and-r (leb 1 (r .mode)) (leb (r .mode) 4) t))
 
--- b is the answer to m, which was asked first
-pub unmet : (b m x : Bool) → b ≡ m → not b ≡ true → false ≡ (x && m)
-unmet b m true e f = sym (sym e ∙ not-true b f)
-unmet b m false e f = refl
+-- x is asked first, and m, answered by b, only where it holds
+unasked : (x m : Bool) → not x ≡ true → false ≡ (x && m)
+unasked true m f = never f
+unasked false m f = refl
 
-pub met : (b m x : Bool) → b ≡ m → not b ≡ false → x ≡ (x && m)
-met b m true e f = sym (sym e ∙ not-false b f)
-met b m false e f = refl
+asked : (x m b : Bool) → not x ≡ false → b ≡ m → b ≡ (x && m)
+asked true m b f e = e
+asked false m b f e = never (sym f)
 
--- the same of a test in the middle
-pub far : (b n o c : Bool) → b ≡ n → not b ≡ true → false ≡ ((o && n) && c)
-far b n o c e f = ap (λ (x : Bool). x && c) (unmet b n o e f)
+-- so of w and r, by what is read of them: the state s and the handle h of r, and the handle k of w
+module _ (w r : Lock) (s : ℕ) (e : s ≡ r .state) where
+  pub rests : not (eqb s 0) ≡ true → false ≡ presses w r
+  rests f = unasked (waits r) (conflicts r w) (rw e at f)
 
-pub close : (b n o c d : Bool) → b ≡ n → not b ≡ false → d ≡ c → (o && d) ≡ ((o && n) && c)
-close b n o c d e f g = ap (λ (x : Bool). o && x) g ∙ ap (λ (x : Bool). x && c) (met b n o e f)
+  pub waits-for : (b : Bool) → not (eqb s 0) ≡ false → b ≡ conflicts r w → b ≡ presses w r
+  waits-for b f g = asked (waits r) (conflicts r w) b (rw e at f) g
+
+  module _ (h k : ℕ) (p : h ≡ handleOf r) (q : k ≡ handleOf w) where
+    pub stands-behind : not (not (eqb s 0) || ltb h k) ≡ true → false ≡ obstacle w r
+    stands-behind f = unasked (held r || ltb (handleOf r) (handleOf w)) (conflicts w r) (rw (e, p, q) at f)
+
+    pub in-the-way : (b : Bool) → not (not (eqb s 0) || ltb h k) ≡ false → b ≡ conflicts w r → b ≡ obstacle w r
+    in-the-way b f g = asked (held r || ltb (handleOf r) (handleOf w)) (conflicts w r) b (rw (e, p, q) at f) g
+
+    pub not-later : not (eqb s 0 && ltb k h) ≡ true → false ≡ hurries w r
+    not-later f = unasked (waits r && ltb (handleOf w) (handleOf r)) (conflicts w r) (rw (e, p, q) at f)
+
+    pub later : (b : Bool) → not (eqb s 0 && ltb k h) ≡ false → b ≡ conflicts w r → b ≡ hurries w r
+    later b f g = asked (waits r && ltb (handleOf w) (handleOf r)) (conflicts w r) b (rw (e, p, q) at f) g
+
+-- the modes m of w and o of r are asked only where r is near
+module _ (w r : Lock) (l : ℕ) (b : Bool) (e : b ≡ near w l r) where
+  pub far : not b ≡ true → false ≡ against w l r
+  far f = go (other w r) (near w l r) (sym e ∙ not-true b f)
+    where
+      go : (o n : Bool) → n ≡ false → false ≡ ((o && n) && conflict (w .mode) (r .mode) (r .state))
+      go true n g = rw g
+      go false n g = refl
+
+  pub close : (k h m o s : ℕ) (d : Bool) → k ≡ handleOf w → h ≡ handleOf r → m ≡ w .mode → o ≡ r .mode → s ≡ r .state → d ≡ conflict m o s → not b ≡ false → (not (eqb k h) && d) ≡ against w l r
+  close k h m o s d ek eh em eo es ed f = rw (ed, ek, eh, em, eo, es) (go (other w r) (near w l r) (sym e ∙ not-false b f))
+    where
+      go : (o n : Bool) → n ≡ true → (o && conflict (w .mode) (r .mode) (r .state)) ≡ ((o && n) && conflict (w .mode) (r .mode) (r .state))
+      go true n g = rw g
+      go false n g = refl
 
 -- a record conflicts up to l exactly where it is ahead and starts up to l
 against-is : (w r : Lock) (l : ℕ) → against w l r ≡ (ahead w r && leb (r .first) l)
@@ -52,15 +85,15 @@ against-is w r l = go (other w r) (eqb (w .stripe) (r .stripe)) (leb (w .first) 
 
 -- so the last byte is cut by the records that conflict up to it
 module _ (b : Bool) (w r : Lock) (m : ℕ) (e : b ≡ against w m r) where
-  pub uncut : not b ≡ true → m ≡ cond (ahead w r) (min (r .first - 1) m) m
+  pub uncut : not b ≡ true → m ≡ cutBy w m r
   uncut f = go (ahead w r) (leb (r .first) m) (leb-false (r .first) m) (sym (e ∙ against-is w r m) ∙ not-true b f)
     where
       go : (h s : Bool) → (s ≡ false → m < r .first) → (h && s) ≡ false → m ≡ cond h (min (r .first - 1) m) m
       go true s k z = let l = k z in omega arith
       go false s k z = refl
 
-  pub cut-to : (y : ℕ) → not b ≡ false → y ≡ r .first - 1 → y ≡ cond (ahead w r) (min (r .first - 1) m) m
-  cut-to y f q = go (ahead w r) (leb (r .first) m) (leb-true (r .first) m) (sym (e ∙ against-is w r m) ∙ not-false b f)
+  pub cut-to : (x y : ℕ) → not b ≡ false → x ≡ r .first → y ≡ x - 1 → y ≡ cutBy w m r
+  cut-to x y f p q = go (ahead w r) (leb (r .first) m) (leb-true (r .first) m) (sym (e ∙ against-is w r m) ∙ not-false b f)
     where
       go : (h s : Bool) → (s ≡ true → r .first ≤ m) → (h && s) ≡ true → y ≡ cond h (min (r .first - 1) m) m
       go true s k z = let l = k z in omega arith

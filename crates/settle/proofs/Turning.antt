@@ -25,32 +25,35 @@ use Rattle.settle.specs.Posts.{Good, Due, fresh, Did}
 use Rattle.settle.proofs.Scan.{nth-is}
 use Rattle.settle.proofs.Written.{did-none, after, did-then}
 
--- the turn of w at place i
-module _ (n i : ℕ) (t : List ℕ) (w : Lock) (G : Good n t) (h : i < n) (e : w ≡ lockAt t i) where
+-- the turn of the record at place i
+module _ (n i : ℕ) (t : List ℕ) (G : Good n t) (h : i < n) where
   abbrev rs : List Lock
   rs = locksOf width t
+
+  abbrev w : Lock
+  w = lockAt t i
 
   stays : (k : ℕ) (b : List ℕ) → T (not (free rs w)) → Did n k (turn i (fresh (tableOf width t))) b k t b
   unfolding turn
   stays k b f =
       subst (λ (s : Settled). Did n k s b k t b)
       (sym (cond-false (free rs (nth (tableOf width t) i)) (granting i (fresh (tableOf width t)) (nth (tableOf width t) i) (grant (tableOf width t .lasts) rs (nth (tableOf width t) i))) (fresh (tableOf width t))
-      (subst (λ (x : Lock). T (not (free rs x))) (sym (nth-is n i t w (G .shape) h e)) f)))
+      (subst (λ (x : Lock). T (not (free rs x))) (sym (nth-is n i t w (G .shape) h refl)) f)))
       (did-none n k t b (G .shape))
 
-  pub turn-held : (k : ℕ) (b : List ℕ) → (w .state ≡ 0 → ⊥) → Did n k (turn i (fresh (tableOf width t))) b k t b
-  turn-held k b z = stays k b (nand-l (waits w) (not (any (obstacle w) rs)) (not-T (waits w) (λ u. z (eqb→eq (w .state) 0 u))))
+  pub turn-held : (s k : ℕ) (b : List ℕ) → s ≡ w .state → (s ≡ 0 → ⊥) → Did n k (turn i (fresh (tableOf width t))) b k t b
+  turn-held s k b e z = stays k b (nand-l (waits w) (not (any (obstacle w) rs)) (not-T (waits w) (λ u. z (e ∙ eqb→eq (w .state) 0 u))))
 
   module _ (x : Bool) (p : x ≡ any (obstacle w) rs) where
     pub turn-blocked : (k : ℕ) (b : List ℕ) → x ≡ true → Did n k (turn i (fresh (tableOf width t))) b k t b
     turn-blocked k b q = stays k b (nand-r (waits w) (not (any (obstacle w) rs)) (subst (λ (y : Bool). T (not (not y))) (sym q ∙ p) tt))
 
-    pub turn-due : w .state ≡ 0 → x ≡ false → Due n i w t
-    turn-due z q = record {
+    pub turn-due : (s : ℕ) (v : Lock) → s ≡ w .state → s ≡ 0 → x ≡ false → v ≡ w → Due n i v t
+    turn-due s v e z q f = record {
       good = G;
       place = h;
-      is = nth-is n i t w (G .shape) h e;
-      free = and-i (waits w) (not (any (obstacle w) rs)) (eq→eqb (w .state) 0 z) (subst (λ (y : Bool). T (not y)) (sym q ∙ p) tt);
+      is = nth-is n i t v (G .shape) h f;
+      free = rw f (and-i (waits w) (not (any (obstacle w) rs)) (eq→eqb (w .state) 0 (sym e ∙ z)) (subst (λ (y : Bool). T (not y)) (sym q ∙ p) tt));
     }
 
 -- a turn does the same whatever events stand before

@@ -12,6 +12,7 @@ use Rattle.table.specs.Bytes.{locksOf}
 use Rattle.table.specs.Places.{lockAt, Shape}
 use Rattle.table.proofs.Records.{locks-from, locks-end}
 use Rattle.locks.specs.Settle.{ahead, widest}
+use Rattle.settle.specs.Posts.{cutBy}
 
 cut-first : (w : Lock) (k m : ℕ) (rs : List Lock) → min k (widest w m rs) ≡ widest w (min k m) rs
 unfolding widest
@@ -23,7 +24,7 @@ cut-first w k m (r ∷ rs) = go (ahead w r) (cut-first w k m rs)
     go true e = omega arith
     go false e = e
 
-wider : (w r : Lock) (m : ℕ) (rs : List Lock) → widest w m (r ∷ rs) ≡ widest w (cond (ahead w r) (min (r .first - 1) m) m) rs
+wider : (w r : Lock) (m : ℕ) (rs : List Lock) → widest w m (r ∷ rs) ≡ widest w (cutBy w m r) rs
 unfolding widest
 wider w r m rs = go (ahead w r)
   where
@@ -35,11 +36,10 @@ abbrev pub Reach : Lock → List ℕ → ℕ → ℕ → ℕ → Type 0
 Reach w t n m i = (i ≤ n) × (widest w m (drop i (locksOf width t)) ≡ widest w eof (locksOf width t))
 
 module _ (n i : ℕ) (t : List ℕ) (w : Lock) (m : ℕ) (S : Shape n t) where
-  pub reach-on : (r : Lock) (k : ℕ) → i < n → r ≡ lockAt t i → k ≡ cond (ahead w r) (min (r .first - 1) m) m → Reach w t n m i → Reach w t n k (i + 1)
-  reach-on r k h e f s = (
+  pub reach-on : (k : ℕ) → i < n → k ≡ cutBy w m (lockAt t i) → Reach w t n m i → Reach w t n k (i + 1)
+  reach-on k h f s = (
     omega arith,
-    (rw f (sym (wider w r m (drop (i + 1) (locksOf width t)))
-        ∙ ap (λ (x : Lock). widest w m (x ∷ drop (i + 1) (locksOf width t))) e
+    (rw f (sym (wider w (lockAt t i) m (drop (i + 1) (locksOf width t)))
         ∙ ap (widest w m) (sym (locks-from t i (let c = S .count in omega arith))) ∙ s .1)),
   )
 

@@ -1,5 +1,5 @@
 -- What the functions of settling promise each other. No public contract of the store cites this file.
-use Prim.Native.Nat.{ℕ, _+_, _≤_, _<_}
+use Prim.Native.Nat.{ℕ, _+_, _-_, _≤_, _<_, min}
 use mathlib.Core.Path.{_≡_}
 use mathlib.Core.Bool.{Bool, false, _&&_, cond}
 use mathlib.Core.List.{List, [], _∷_, map}
@@ -16,7 +16,7 @@ use Rattle.table.specs.Sound.{sound}
 use Rattle.table.specs.Bytes.{locksOf, tableOf}
 use Rattle.table.specs.Places.{FitsTable, Shape, Holds, withLock}
 use Rattle.locks.specs.Conflicts.{hurries}
-use Rattle.locks.specs.Settle.{Event, Settled, given, inState, revocation, widest, nextNumber, lastsAfter, free, wanted, settle}
+use Rattle.locks.specs.Settle.{Event, Settled, given, inState, ahead, revocation, widest, nextNumber, lastsAfter, free, wanted, settle}
 use Rattle.locks.specs.Events.{eventLayout, eventFields, eventsOver}
 
 -- a sound table of n records: what each function that changes it asks
@@ -44,6 +44,10 @@ pub record First (p : Lock → Bool) (n : ℕ) (rs : List Lock) (r : ℕ) : Type
 -- r has w's stripe, and a byte of what w asks up to l
 abbrev pub near : Lock → ℕ → Lock → Bool
 near w l r = eqb (w .stripe) (r .stripe) && overlap (w .first) l (r .first) (r .last)
+
+-- w's last byte, m so far, cut by r
+abbrev pub cutBy : Lock → ℕ → Lock → ℕ
+cutBy w m r = cond (ahead w r) (min (r .first - 1) m) m
 
 -- what w becomes when it is granted among the records rs with the number v
 abbrev pub grantedAs : List Lock → Lock → ℕ → Lock

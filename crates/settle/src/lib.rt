@@ -2,21 +2,19 @@
 use common::Number;
 use table::Lock;
 ghost use mathlib.Core.Path.{_≡_};
-ghost use mathlib.Core.Bool.{cond, false};
 ghost use mathlib.Core.List.{[], _∷_};
-ghost use Prim.Native.Nat.{_+_, _-_, _^_, _≤_, _<_, min};
-ghost use lib.Dec.{T};
-ghost use lib.ListN.{length, take};
+ghost use Prim.Native.Nat.{_+_, _-_, _^_, _≤_, _<_};
+ghost use lib.ListN.{length};
 ghost use Rattle.common.specs.Counters.{width};
 ghost use Rattle.common.specs.Ranges.{eof};
 ghost use Rattle.common.specs.Tests.{any, keep};
-ghost use Rattle.table.specs.Table.{waits};
-ghost use Rattle.table.specs.Bytes.{locksOf, tableOf};
-ghost use Rattle.table.specs.Places.{Shape, Holds};
-ghost use Rattle.locks.specs.Conflicts.{against, obstacle, hurries};
-ghost use Rattle.locks.specs.Settle.{given, ahead, widest, nextNumber, turn, turns, presses, wanted, revoke};
+ghost use Rattle.table.specs.Table.{handleOf, waits};
+ghost use Rattle.table.specs.Bytes.{tableSize, locksOf, tableOf};
+ghost use Rattle.table.specs.Places.{lockAt, Shape};
+ghost use Rattle.locks.specs.Conflicts.{against, conflicts, obstacle, hurries};
+ghost use Rattle.locks.specs.Settle.{given, widest, nextNumber, turn, turns, presses, wanted, revoke};
 ghost use Rattle.locks.specs.Events.{eventsSize};
-ghost use Rattle.settle.specs.Posts.{Good, Fair, Past, First, moded, near, grantedAs, Took, Due, putEvents, fresh, Did, revokeAt, Wanted, Settles};
+ghost use Rattle.settle.specs.Posts.{Good, Fair, Past, First, near, cutBy, grantedAs, Took, Due, putEvents, fresh, Did, revokeAt, Wanted, Settles};
 
 // The states of a record.
 const WAITING: u64 = 0;
@@ -43,55 +41,115 @@ const EVENTS: usize = 4;
 
 const EVENT_BYTES: usize = 44;
 
-// Says whether r has w's stripe and a byte of what w asks up to l.
-fn near(w: Lock, l: u64, r: Lock) -> bool
-    ensures { λ b. ⌜ b ≡ near w l r ⌝ }
+// Reads the handle of the record at place i.
+pub fn handle_at(t: &[u8], i: usize) -> u64
+    requires { ⌜ (length (now t) ≡ tableSize width) × (i < 256) ⌝ }
+    ensures { λ r. ⌜ r ≡ handleOf (lockAt (now (t .entry)) i) ⌝ }
 {
-    (w.stripe == r.stripe) & ((w.first <= r.last) & (r.first <= l))
+    xdr::u32_at(t, table::RECORDS + table::RECORD_BYTES * i)
 }
 
-// Says whether r conflicts with what w asks up to l.
-fn meets(w: Lock, l: u64, r: Lock) -> bool
-    requires { ⌜ T (moded w) × T (moded r) ⌝ }
-    ensures { λ b. ⌜ b ≡ against w l r ⌝ }
+// Reads the stripe of the record at place i.
+fn stripe_at(t: &[u8], i: usize) -> u64
+    requires { ⌜ (length (now t) ≡ tableSize width) × (i < 256) ⌝ }
+    ensures { λ r. ⌜ r ≡ lockAt (now (t .entry)) i .stripe ⌝ }
 {
-    if !near(w, l, r) {
-        return false;
-    }
-    (w.handle.0 != r.handle.0) & modes::conflict(w.mode, r.mode, r.state)
+    xdr::u32_at(t, table::RECORDS + table::RECORD_BYTES * i + table::STRIPE)
 }
 
-// Says whether r keeps w waiting.
-fn hinders(w: Lock, r: Lock) -> bool
-    requires { ⌜ T (moded w) × T (moded r) ⌝ }
-    ensures { λ b. ⌜ b ≡ obstacle w r ⌝ }
+// Reads the mode of the record at place i.
+fn mode_at(t: &[u8], i: usize) -> u64
+    requires { ⌜ (length (now t) ≡ tableSize width) × (i < 256) ⌝ }
+    ensures { λ r. ⌜ r ≡ lockAt (now (t .entry)) i .mode ⌝ }
 {
-    if !meets(w, w.last, r) {
-        return false;
-    }
-    (r.state != WAITING) | (r.handle.0 < w.handle.0)
+    xdr::u32_at(t, table::RECORDS + table::RECORD_BYTES * i + table::MODE)
 }
 
-// Says whether r is a later request for what w asks.
-fn hurrying(w: Lock, r: Lock) -> bool
-    requires { ⌜ T (moded w) × T (moded r) ⌝ }
-    ensures { λ b. ⌜ b ≡ hurries w r ⌝ }
+// Reads the state of the record at place i.
+fn state_at(t: &[u8], i: usize) -> u64
+    requires { ⌜ (length (now t) ≡ tableSize width) × (i < 256) ⌝ }
+    ensures { λ r. ⌜ r ≡ lockAt (now (t .entry)) i .state ⌝ }
 {
-    if !meets(w, w.last, r) {
-        return false;
-    }
-    (r.state == WAITING) & (w.handle.0 < r.handle.0)
+    xdr::u32_at(t, table::RECORDS + table::RECORD_BYTES * i + table::STATE)
 }
 
-// Says whether w waits for what r holds.
-fn pressing(w: Lock, r: Lock) -> bool
-    requires { ⌜ T (moded w) × T (moded r) ⌝ }
-    ensures { λ b. ⌜ b ≡ presses r w ⌝ }
+// Reads the first byte of the record at place i.
+fn first_at(t: &[u8], i: usize) -> u64
+    requires { ⌜ (length (now t) ≡ tableSize width) × (i < 256) ⌝ }
+    ensures { λ r. ⌜ r ≡ lockAt (now (t .entry)) i .first ⌝ }
 {
-    if !meets(w, w.last, r) {
+    xdr::u64_at(t, table::RECORDS + table::RECORD_BYTES * i + table::FIRST)
+}
+
+// Reads the last byte of the record at place i.
+fn last_at(t: &[u8], i: usize) -> u64
+    requires { ⌜ (length (now t) ≡ tableSize width) × (i < 256) ⌝ }
+    ensures { λ r. ⌜ r ≡ lockAt (now (t .entry)) i .last ⌝ }
+{
+    xdr::u64_at(t, table::RECORDS + table::RECORD_BYTES * i + table::LAST)
+}
+
+// Says whether the record at place j has the stripe of the one at place i, and a byte of what that asks up to l.
+fn near(t: &[u8], i: usize, j: usize, l: u64) -> bool
+    requires { ⌜ (length (now t) ≡ tableSize width) × (i < 256) × (j < 256) ⌝ }
+    ensures { λ b. ⌜ b ≡ near (lockAt (now (t .entry)) i) l (lockAt (now (t .entry)) j) ⌝ }
+{
+    (stripe_at(t, i) == stripe_at(t, j))
+        & ((first_at(t, i) <= last_at(t, j)) & (first_at(t, j) <= l))
+}
+
+// Says whether the record at place j conflicts with what the one at place i asks up to l.
+fn meets(t: &[u8], n: usize, i: usize, j: usize, l: u64) -> bool
+    requires { ⌜ Fair n (now t) × (i < n) × (j < n) ⌝ }
+    ensures { λ b. ⌜ b ≡ against (lockAt (now (t .entry)) i) l (lockAt (now (t .entry)) j) ⌝ }
+{
+    if !near(t, i, j, l) {
         return false;
     }
-    w.state == WAITING
+    (handle_at(t, i) != handle_at(t, j))
+        & modes::conflict(mode_at(t, i), mode_at(t, j), state_at(t, j))
+}
+
+// Says whether the record at place j conflicts with what the one at place i asks.
+fn conflicts(t: &[u8], n: usize, i: usize, j: usize) -> bool
+    requires { ⌜ Fair n (now t) × (i < n) × (j < n) ⌝ }
+    ensures { λ b. ⌜ b ≡ conflicts (lockAt (now (t .entry)) i) (lockAt (now (t .entry)) j) ⌝ }
+{
+    meets(t, n, i, j, last_at(t, i))
+}
+
+// Says whether the record at place j keeps the one at place i waiting.
+fn hinders(t: &[u8], n: usize, i: usize, j: usize) -> bool
+    requires { ⌜ Fair n (now t) × (i < n) × (j < n) ⌝ }
+    ensures { λ b. ⌜ b ≡ obstacle (lockAt (now (t .entry)) i) (lockAt (now (t .entry)) j) ⌝ }
+{
+    if !((state_at(t, j) != WAITING) | (handle_at(t, j) < handle_at(t, i))) {
+        return false;
+    }
+    conflicts(t, n, i, j)
+}
+
+// Says whether the record at place j is a later request for what the one at place i asks.
+fn hurrying(t: &[u8], n: usize, i: usize, j: usize) -> bool
+    requires { ⌜ Fair n (now t) × (i < n) × (j < n) ⌝ }
+    ensures { λ b. ⌜ b ≡ hurries (lockAt (now (t .entry)) i) (lockAt (now (t .entry)) j) ⌝ }
+{
+    if !((state_at(t, j) == WAITING) & (handle_at(t, i) < handle_at(t, j))) {
+        return false;
+    }
+    conflicts(t, n, i, j)
+}
+
+// Says whether the record at place j waits for what the one at place i holds.
+fn pressing(t: &[u8], n: usize, i: usize, j: usize) -> bool
+    requires { ⌜ Fair n (now t) × (i < n) × (j < n) ⌝ }
+    ensures { λ b. ⌜ b ≡ presses (lockAt (now (t .entry)) i) (lockAt (now (t .entry)) j) ⌝ }
+{
+    let waits = state_at(t, j) == WAITING;
+    if !waits {
+        return false;
+    }
+    conflicts(t, n, j, i)
 }
 
 // Takes the byte before x, and 0 before 0.
@@ -104,51 +162,51 @@ fn before(x: u64) -> u64
     x - 1
 }
 
-// Cuts w's last byte, m so far, down to the byte before r where r conflicts.
-fn cut(m: u64, w: Lock, r: Lock) -> u64
-    requires { ⌜ T (moded w) × T (moded r) ⌝ }
-    ensures { λ b. ⌜ b ≡ cond (ahead w r) (min (r .first - 1) m) m ⌝ }
+// Cuts the last byte of the record at place i, m so far, down to the byte before the one at place j where they conflict.
+fn cut(t: &[u8], n: usize, i: usize, j: usize, m: u64) -> u64
+    requires { ⌜ Fair n (now t) × (i < n) × (j < n) ⌝ }
+    ensures { λ b. ⌜ b ≡ cutBy (lockAt (now (t .entry)) i) m (lockAt (now (t .entry)) j) ⌝ }
 {
-    if !meets(w, m, r) {
+    if !meets(t, n, i, j, m) {
         return m;
     }
-    before(r.first)
+    before(first_at(t, j))
 }
 
-// Says whether some record keeps w waiting.
-fn blocked(t: &[u8], n: usize, w: Lock) -> bool
-    requires { ⌜ Fair n (now t) × T (moded w) ⌝ }
-    ensures { λ b. ⌜ b ≡ any (obstacle w) (locksOf width (now (t .entry))) ⌝ }
+// Says whether some record keeps the one at place i waiting.
+fn blocked(t: &[u8], n: usize, i: usize) -> bool
+    requires { ⌜ Fair n (now t) × (i < n) ⌝ }
+    ensures { λ b. ⌜ b ≡ any (obstacle (lockAt (now (t .entry)) i)) (locksOf width (now (t .entry))) ⌝ }
 {
-    for i in 0..n {
-        if hinders(w, table::lock_at(t, i)) {
+    for j in 0..n {
+        if hinders(t, n, i, j) {
             return true;
         }
     }
     false
 }
 
-// Says whether a later request wants what w asks.
-fn hurried(t: &[u8], n: usize, w: Lock) -> bool
-    requires { ⌜ Fair n (now t) × T (moded w) ⌝ }
-    ensures { λ b. ⌜ b ≡ any (hurries w) (locksOf width (now (t .entry))) ⌝ }
+// Says whether a later request wants what the record at place i asks.
+fn hurried(t: &[u8], n: usize, i: usize) -> bool
+    requires { ⌜ Fair n (now t) × (i < n) ⌝ }
+    ensures { λ b. ⌜ b ≡ any (hurries (lockAt (now (t .entry)) i)) (locksOf width (now (t .entry))) ⌝ }
 {
-    for i in 0..n {
-        if hurrying(w, table::lock_at(t, i)) {
+    for j in 0..n {
+        if hurrying(t, n, i, j) {
             return true;
         }
     }
     false
 }
 
-// Finds the greatest last byte for w.
-fn reach(t: &[u8], n: usize, w: Lock) -> u64
-    requires { ⌜ Fair n (now t) × T (moded w) ⌝ }
-    ensures { λ b. ⌜ b ≡ widest w eof (locksOf width (now (t .entry))) ⌝ }
+// Finds the greatest last byte for the record at place i.
+fn reach(t: &[u8], n: usize, i: usize) -> u64
+    requires { ⌜ Fair n (now t) × (i < n) ⌝ }
+    ensures { λ b. ⌜ b ≡ widest (lockAt (now (t .entry)) i) eof (locksOf width (now (t .entry))) ⌝ }
 {
     let mut m: u64 = EOF;
-    for i in 0..n {
-        m = cut(m, w, table::lock_at(t, i));
+    for j in 0..n {
+        m = cut(t, n, i, j, m);
     }
     m
 }
@@ -170,15 +228,15 @@ pub fn given(w: Lock, state: u64, number: u64, last: u64) -> Lock
     }
 }
 
-// Makes of w what it is granted as, with the number v.
-fn granted(t: &[u8], n: usize, w: Lock, v: u64) -> Lock
-    requires { ⌜ Fair n (now t) × T (moded w) ⌝ }
+// Makes of w, the record at place i, what it is granted as, with the number v.
+fn granted(t: &[u8], n: usize, i: usize, w: Lock, v: u64) -> Lock
+    requires { ⌜ Fair n (now t) × (i < n) × (w ≡ lockAt (now t) i) ⌝ }
     ensures { λ r. ⌜ r ≡ grantedAs (locksOf width (now (t .entry))) w v ⌝ }
 {
-    if hurried(t, n, w) {
+    if hurried(t, n, i) {
         return given(w, CANCELING, v, w.last);
     }
-    given(w, GRANTED, v, reach(t, n, w))
+    given(w, GRANTED, v, reach(t, n, i))
 }
 
 // Takes the number for w's grant: 0 for PR, else its stripe's next, which becomes its last.
@@ -218,7 +276,7 @@ fn grant(t: &mut [u8], b: &mut [u8], n: usize, i: usize, w: Lock, k: usize)
     ensures { λ _. ⌜ Did n k (turn i (fresh (tableOf width (now (t .entry))))) (now (b .entry)) (k + 1) (now (t .exit)) (now (b .exit)) ⌝ }
 {
     let v = take_number(t, n, w);
-    let g = granted(t, n, w, v);
+    let g = granted(t, n, i, w, v);
     table::put_lock(t, n, i, g);
     put_event(b, k, GRANT, g);
 }
@@ -228,13 +286,13 @@ fn turn(t: &mut [u8], b: &mut [u8], n: usize, i: usize, k: usize) -> usize
     requires { ⌜ Good n (now t) × (i < n) × (k < 256) × (eventsSize width ≤ length (now b)) ⌝ }
     ensures { λ r. ⌜ Did n k (turn i (fresh (tableOf width (now (t .entry))))) (now (b .entry)) r (now (t .exit)) (now (b .exit)) ⌝ }
 {
+    if state_at(t, i) != WAITING {
+        return k;
+    }
+    if blocked(t, n, i) {
+        return k;
+    }
     let w = table::lock_at(t, i);
-    if w.state != WAITING {
-        return k;
-    }
-    if blocked(t, n, w) {
-        return k;
-    }
     grant(t, b, n, i, w, k);
     k + 1
 }
@@ -257,21 +315,20 @@ fn first_waiting(t: &[u8], n: usize) -> usize
     ensures { λ r. ⌜ First waits n (locksOf width (now (t .entry))) r ⌝ }
 {
     for i in 0..n {
-        let r = table::lock_at(t, i);
-        if r.state == WAITING {
+        if state_at(t, i) == WAITING {
             return i;
         }
     }
     n
 }
 
-// Says whether some request waits for what r holds; none waits before place f.
-fn pressed(t: &[u8], n: usize, f: usize, r: Lock) -> bool
-    requires { ⌜ Fair n (now t) × Past waits n (locksOf width (now t)) f × T (moded r) ⌝ }
-    ensures { λ b. ⌜ b ≡ any (presses r) (locksOf width (now (t .entry))) ⌝ }
+// Says whether some request waits for what the record at place i holds; none waits before place f.
+fn pressed(t: &[u8], n: usize, f: usize, i: usize) -> bool
+    requires { ⌜ Fair n (now t) × Past waits n (locksOf width (now t)) f × (i < n) ⌝ }
+    ensures { λ b. ⌜ b ≡ any (presses (lockAt (now (t .entry)) i)) (locksOf width (now (t .entry))) ⌝ }
 {
-    for i in f..n {
-        if pressing(table::lock_at(t, i), r) {
+    for j in f..n {
+        if pressing(t, n, i, j) {
             return true;
         }
     }
@@ -293,13 +350,13 @@ fn revoke(t: &mut [u8], b: &mut [u8], n: usize, f: usize, i: usize, k: usize) ->
     requires { ⌜ Fair n (now t) × Past waits n (locksOf width (now t)) f × (i < n) × (k + length (revokeAt i (tableOf width (now t)) .events) ≤ 256) × (eventsSize width ≤ length (now b)) ⌝ }
     ensures { λ r. ⌜ Did n k (revokeAt i (tableOf width (now (t .entry)))) (now (b .entry)) r (now (t .exit)) (now (b .exit)) ⌝ }
 {
+    if state_at(t, i) != GRANTED {
+        return k;
+    }
+    if !pressed(t, n, f, i) {
+        return k;
+    }
     let r = table::lock_at(t, i);
-    if r.state != GRANTED {
-        return k;
-    }
-    if !pressed(t, n, f, r) {
-        return k;
-    }
     ask(t, b, n, i, r, k);
     k + 1
 }

@@ -4,18 +4,19 @@ use Prim.Native.Nat.{_-_}
 use mathlib.Core.Path.{refl}
 use Rattle.common.specs.Counters.{width}
 use Rattle.table.specs.Bytes.{locksOf}
+use Rattle.table.specs.Places.{lockAt}
 use Rattle.locks.specs.Conflicts.{obstacle}
 use Rattle.settle.specs.Posts.{Past}
-use Rattle.settle.proofs.Scan.{scan-hit, scan-miss, scan-end, mode-at}
+use Rattle.settle.proofs.Scan.{scan-hit, scan-miss, scan-end}
 use Rattle.settle.proofs.blocked.Statement.{statement}
 use Rattle.settle.proofs.blocked.Tie as tie
 
 abbrev Inv-loop : tie.InvT-loop
-Inv-loop t n w i₀ i = Past (obstacle w) n (locksOf width t) i
+Inv-loop t n i j₀ j = Past (obstacle (lockAt t i)) n (locksOf width t) j
 
 abbrev μ-loop : tie.MeasureT-loop
-μ-loop t n w i₀ i = n - i
+μ-loop t n i j₀ j = n - j
 
 pub blocked-spec : {M : Type 1} → statement M
 blocked-spec =
-    tie.close (tie.spec Inv-loop μ-loop (λ c. record { most = search needs; none = refl }) (λ c κs. search needs) (λ c κs. search mode-at) (λ c. search scan-hit) (λ c. search needs) (λ c. search needs) (λ c. search scan-miss) (λ c. search scan-end))
+    tie.close (tie.spec Inv-loop μ-loop (λ c. record { most = search needs; none = refl }) (λ c κs. search needs) (λ c. search scan-hit) (λ c. search needs) (λ c. search needs) (λ c. search scan-miss) (λ c. search scan-end))

@@ -4,4 +4,4 @@ use Rattle.settle.proofs.cut.Statement.{statement}
 use Rattle.settle.proofs.cut.Tie as tie
 
 pub cut-spec : {M : Type 1} → statement M
-cut-spec = tie.close (tie.spec (λ c κs. search needs) (λ c. search uncut) (λ c κs. search needs) (λ c. search cut-to))
+cut-spec = tie.close (tie.spec (λ c κs. search needs) (λ c. search uncut) (λ c κs. search needs) (λ c κs. search needs) (λ c. search cut-to))

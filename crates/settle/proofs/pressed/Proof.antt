@@ -3,19 +3,20 @@ use borrow.Author.Needs.{needs}
 use Prim.Native.Nat.{_-_}
 use Rattle.common.specs.Counters.{width}
 use Rattle.table.specs.Bytes.{locksOf}
+use Rattle.table.specs.Places.{lockAt}
 use Rattle.locks.specs.Settle.{presses}
 use Rattle.settle.specs.Posts.{Past}
-use Rattle.settle.proofs.Scan.{scan-hit, scan-miss, scan-end, mode-at}
+use Rattle.settle.proofs.Scan.{scan-hit, scan-miss, scan-end}
 use Rattle.settle.proofs.Revoking.{none-press}
 use Rattle.settle.proofs.pressed.Statement.{statement}
 use Rattle.settle.proofs.pressed.Tie as tie
 
 abbrev Inv-loop : tie.InvT-loop
-Inv-loop t n f r i₀ i = Past (presses r) n (locksOf width t) i
+Inv-loop t n f i j₀ j = Past (presses (lockAt t i)) n (locksOf width t) j
 
 abbrev μ-loop : tie.MeasureT-loop
-μ-loop t n f r i₀ i = n - i
+μ-loop t n f i j₀ j = n - j
 
 pub pressed-spec : {M : Type 1} → statement M
 pressed-spec =
-    tie.close (tie.spec Inv-loop μ-loop (λ c. search none-press) (λ c κs. search needs) (λ c κs. search mode-at) (λ c. search scan-hit) (λ c. search needs) (λ c. search needs) (λ c. search scan-miss) (λ c. search scan-end))
+    tie.close (tie.spec Inv-loop μ-loop (λ c. search none-press) (λ c κs. search needs) (λ c. search scan-hit) (λ c. search needs) (λ c. search needs) (λ c. search scan-miss) (λ c. search scan-end))

@@ -1,7 +1,8 @@
-use Rattle.settle.proofs.Tests.{unmet, met}
+-- `pressing`: a conflict is asked only of a record that waits.
+use Rattle.settle.proofs.Tests.{rests, waits-for}
 use borrow.Author.Needs.{needs}
 use Rattle.settle.proofs.pressing.Statement.{statement}
 use Rattle.settle.proofs.pressing.Tie as tie
 
 pub pressing-spec : {M : Type 1} → statement M
-pressing-spec = tie.close (tie.spec (λ c κs. search needs) (λ c. search unmet) (λ c. search met))
+pressing-spec = tie.close (tie.spec (λ c κs. search needs) (λ c. search rests) (λ c κs. search needs) (λ c. search waits-for))

@@ -1,5 +1,4 @@
 -- `revoke`: each answer is a case of the revocation.
-use Rattle.settle.proofs.Scan.{mode-at}
 use Rattle.settle.proofs.Revoking.{revoke-other, revoke-free, revoke-wanted, revoke-room}
 use borrow.Author.Needs.{needs}
 use Rattle.settle.proofs.revoke.Statement.{statement}
@@ -7,10 +6,10 @@ use Rattle.settle.proofs.revoke.Tie as tie
 
 ask-requires : tie.Need-ask-requires
 ask-requires c κs =
-    let s = c .before .before .before .before .before .before .before .before .before .before .before in
-    let W = revoke-wanted _ _ _ _ (s .pre .0 .shape) (s .pre .2) (c .before .before .before .before .before .before .before .lock-at .ensures .0) _ (c .before .before .before .pressed .ensures) (c .before .before .before .before .before .if1 .left) (c .before .before .if2 .left) (c .before .before .before .before .before .before .before .lock-at .ensures .1) in
+    let s = c .before .before .before .before .before .before .before .before .before .before .before .before in
+    let W = revoke-wanted _ _ _ (s .pre .0 .shape) (s .pre .2) _ (c .before .before .before .before .before .pressed .ensures) _ _ (c .before .before .before .before .before .before .before .before .state-at .ensures) (c .before .before .before .before .before .before .before .if1 .left) (c .before .before .before .before .if2 .left) (c .before .before .lock-at .ensures .0) (c .before .before .lock-at .ensures .1) in
     (W, revoke-room _ _ _ _ _ W (s .pre .3), search needs)
 
 pub revoke-spec : {M : Type 1} → statement M
 revoke-spec =
-    tie.close (tie.spec (λ c κs. search needs) (λ c. search needs) (λ c. search revoke-other) (λ c κs. (search needs, search needs, search mode-at)) (λ c. search needs) (λ c. search revoke-free) ask-requires (λ c. search needs) (λ c. search needs) (λ c. search needs) (λ c. search needs))
+    tie.close (tie.spec (λ c κs. search needs) (λ c. search needs) (λ c. search revoke-other) (λ c κs. search needs) (λ c. search needs) (λ c. search revoke-free) (λ c κs. search needs) ask-requires (λ c. search needs) (λ c. search needs) (λ c. search needs) (λ c. search needs))

@@ -1,0 +1,14 @@
+-- `handle_at`: the field that the code reads is that of the layout.
+use native.Mathlib.Nat.{add-zero}
+use Rattle.xdr.specs.Layout.{fields}
+use Rattle.table.specs.Places.{lockAt}
+use borrow.Author.Needs.{needs}
+use Rattle.settle.proofs.handle_at.Statement.{statement}
+use Rattle.settle.proofs.handle_at.Tie as tie
+
+returns : tie.Need-returns
+unfolding lockAt fields
+returns c = rw add-zero (c .u32-at .ensures .0)
+
+pub handle-at-spec : {M : Type 1} → statement M
+handle-at-spec = tie.close (tie.spec (search needs) (search needs) (search needs) returns)
