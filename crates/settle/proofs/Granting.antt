@@ -5,26 +5,26 @@ use mathlib.Core.Bool.{Bool, true, false, not, _&&_, cond}
 use mathlib.Core.List.{List, [], _∷_, _++_}
 use mathlib.Core.Logic.{⊎-elim}
 use mathlib.Core.Path.{_≡_, refl, sym, ap, ap₂, subst, _∙_}
-use lib.Dec.{T, leb→le, le→leb}
+use lib.Dec.{T, not-T, leb→le, le→leb, ltb, ltb→lt}
 use lib.ListN.{getD, take, drop}
 use lib.Seq.{split-at}
 use Rattle.common.specs.Counters.{width}
 use Rattle.common.specs.Ranges.{eof}
 use Rattle.common.specs.Tests.{all, any, count}
-use Rattle.common.proofs.Bools.{and-i, by-cond, cond-true, either}
-use Rattle.common.proofs.Listed.{all-at, all-imp}
+use Rattle.common.proofs.Bools.{and-l, and-i, nand-l, nand-r, false-is, by-cond, cond-true, either}
+use Rattle.common.proofs.Listed.{all-at, all-imp, nobody, pairs-before}
 use Rattle.common.proofs.Scans.{all-from}
 use Rattle.modes.specs.Codes.{granted, canceling}
 use Rattle.table.specs.declared.Lock.{Lock}
-use Rattle.table.specs.Table.{Table, blank, numberOf, held, writes}
-use Rattle.table.specs.Sound.{valid, room, wants}
+use Rattle.table.specs.Table.{Table, blank, handleOf, numberOf, waits, held, writes}
+use Rattle.table.specs.Sound.{valid, agree, room, wants}
 use Rattle.table.specs.Bytes.{locksOf, tableOf}
 use Rattle.table.specs.Places.{lockAt, FitsTable, Holds, withLock}
 use Rattle.table.proofs.Facts.{Valid, valid→, Sound, sound→}
-use Rattle.locks.specs.Conflicts.{hurries}
+use Rattle.locks.specs.Conflicts.{conflicts, hurries}
 use Rattle.locks.specs.Settle.{Settled, grantEvent, given, widest, nextNumber, lastsAfter, grant, free, granting, turn}
 use Rattle.locks.proofs.Turn.{w-valid-here, grant-sound}
-use Rattle.settle.specs.Posts.{Good, moded, Fair, grantedAs, Took, Due, putEvents, fresh, Did}
+use Rattle.settle.specs.Posts.{Good, moded, Fair, Past, grantedAs, Took, Due, putEvents, fresh, Did}
 use Rattle.settle.proofs.Scan.{inside, nth-is}
 
 -- a record of a sound table fits
@@ -69,6 +69,14 @@ module _ (rs : List Lock) (w x : Lock) (v : ℕ) (b : Bool) (f : w ≡ x) (e : b
   pub as-wide : (r : Lock) (l : ℕ) → b ≡ false → l ≡ widest x eof rs → r ≡ given w granted v l → r ≡ grantedAs rs w v
   as-wide r l g p q = rw (f, ← e, g, ← p, ← f) q
 
+-- a record with a smaller handle does not hurry w
+earlier : (w r : Lock) → T (agree r w) → T (not (hurries w r))
+unfolding agree
+earlier w r t =
+    let h = ltb→lt (handleOf r) (handleOf w) (search and-l) in
+    nand-l (waits r && ltb (handleOf w) (handleOf r)) (conflicts w r)
+    (nand-r (waits r) (ltb (handleOf w) (handleOf r)) (not-T (ltb (handleOf w) (handleOf r)) (λ u. let k = ltb→lt (handleOf w) (handleOf r) u in let z : ⊥ = omega arith in z)))
+
 module _ (n i : ℕ) (w : Lock) (t : List ℕ) (D : Due n i w t) where
   abbrev lasts : List ℕ
   lasts = tableOf width t .lasts
@@ -90,6 +98,11 @@ module _ (n i : ℕ) (w : Lock) (t : List ℕ) (D : Due n i w t) where
 
   valid-here : Valid (tableOf width t .issued) lasts w
   valid-here = w-valid-here (tableOf width t .issued) lasts (take i rs) w (drop (suc i) rs) sounds freed
+
+  unhurried : any (hurries w) (take i rs) ≡ false
+  unhurried =
+      false-is (any (hurries w) (take i rs))
+      (nobody (hurries w) (take i rs) (all-imp (λ r. agree r w) (λ r. not (hurries w r)) (earlier w) (take i rs) (pairs-before agree (take i rs) w (drop (suc i) rs) (sounds .apart))))
 
   pub due-stripe : w .stripe < 16
   due-stripe = let v = valid-here in omega arith
@@ -113,6 +126,12 @@ module _ (n i : ℕ) (w : Lock) (t : List ℕ) (D : Due n i w t) where
 
     pub due-here : w ≡ lockAt u i
     due-here = sym (D .is) ∙ ap (λ (l : List Lock). getD l i blank) (sym same-locks) ∙ nth-is n i u (lockAt u i) (K .table .shape) (D .place) refl
+
+    pub due-first : Past (hurries (lockAt u i)) n (locksOf width u) i
+    due-first = record {
+      most = let h = D .place in omega arith;
+      none = subst (λ (x : Lock). any (hurries x) (take i (locksOf width u)) ≡ false) due-here (ap (λ (l : List Lock). any (hurries w) (take i l)) same-locks ∙ unhurried);
+    }
 
     module _ (q : g ≡ grantedAs (locksOf width u) w v) where
       as-granted : g ≡ grant lasts rs w

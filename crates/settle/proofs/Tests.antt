@@ -2,24 +2,16 @@
 use Prim.Native.Nat.{ℕ, _-_, _≤_, _<_, min}
 use native.Mathlib.Omega.{arith}
 use mathlib.Core.Bool.{Bool, true, false, not, _&&_, _||_, cond}
-use mathlib.Core.Path.{_≡_, refl, sym, ap, _∙_}
-use lib.Dec.{T, leb, ltb, eqb, leb→le}
-use borrow.Author.Tests.{not-true, not-false, leb-true, leb-false}
-use Rattle.common.proofs.Bools.{and-l, and-r, never}
+use mathlib.Core.Path.{_≡_, refl, sym, ap, ap₂, _∙_}
+use lib.Dec.{leb, ltb, eqb}
+use borrow.Author.Tests.{not-true, not-false, leb-true, leb-false, eqb-true, eq-eqb, ne-eqb}
+use Rattle.common.proofs.Bools.{and-false, never}
 use Rattle.table.specs.declared.Lock.{Lock}
 use Rattle.table.specs.Table.{handleOf, waits, held}
 use Rattle.modes.specs.Conflict.{conflict}
 use Rattle.locks.specs.Conflicts.{other, against, conflicts, obstacle, hurries}
 use Rattle.locks.specs.Settle.{ahead, presses}
-use Rattle.settle.specs.Posts.{moded, near, cutBy}
-
--- a known mode, read as v
-module _ (r : Lock) (v : ℕ) (e : v ≡ r .mode) (t : T (moded r)) where
-  pub mode-lo : 1 ≤ v
-  mode-lo = rw e (leb→le 1 (r .mode) (and-l (leb 1 (r .mode)) (leb (r .mode) 4) t))
-
-  pub mode-hi : v ≤ 4
-  mode-hi = rw e (leb→le (r .mode) 4 (and-r (leb 1 (r .mode)) (leb (r .mode) 4) t))
+use Rattle.settle.specs.Posts.{near, passes, cutBy}
 
 -- x is asked first, and m, answered by b, only where it holds
 unasked : (x m : Bool) → not x ≡ true → false ≡ (x && m)
@@ -50,6 +42,30 @@ module _ (w r : Lock) (s : ℕ) (e : s ≡ r .state) where
 
     pub later : (b : Bool) → not (eqb s 0 && ltb k h) ≡ false → b ≡ conflicts w r → b ≡ hurries w r
     later b f g = asked (waits r && ltb (handleOf w) (handleOf r)) (conflicts w r) b (rw (e, p, q) at f) g
+
+-- a canceling NBW is passed or not, and one that is passed is no obstacle
+module _ (w r : Lock) where
+  module _ (s : ℕ) (e : s ≡ r .state) where
+    pub not-canceling : (s ≡ 3 → ⊥) → false ≡ passes w r
+    not-canceling f = rw (ne-eqb (r .state) 3 (λ g. f (e ∙ g)))
+
+    module _ (o : ℕ) (p : o ≡ r .mode) where
+      pub not-nbw : s ≡ 3 → (o ≡ 2 → ⊥) → false ≡ passes w r
+      not-nbw f g = rw (eq-eqb (r .state) 3 (sym e ∙ f), ne-eqb (r .mode) 2 (λ h. g (p ∙ h)))
+
+      pub passing : (m : ℕ) (d : Bool) → m ≡ w .mode → d ≡ conflict m 2 3 → s ≡ 3 → o ≡ 2 → not d ≡ passes w r
+      passing m d em ed f g = rw (eq-eqb (r .state) 3 (sym e ∙ f), eq-eqb (r .mode) 2 (sym p ∙ g), ed, em)
+
+  pub let-pass : (b : Bool) → b ≡ passes w r → b ≡ true → false ≡ obstacle w r
+  let-pass b e f = go (eqb (r .state) 3) (eqb (r .mode) 2) (eqb-true (r .state) 3) (eqb-true (r .mode) 2) (sym e ∙ f)
+    where
+      none : conflict (w .mode) (r .mode) (r .state) ≡ false → false ≡ obstacle w r
+      none g = rw (g, and-false (other w r && near w (w .last) r), and-false (held r || ltb (handleOf r) (handleOf w)))
+
+      go : (x y : Bool) → (x ≡ true → r .state ≡ 3) → (y ≡ true → r .mode ≡ 2) → ((x && y) && not (conflict (w .mode) 2 3)) ≡ true → false ≡ obstacle w r
+      go true true p q g = none (ap₂ (λ (o s : ℕ). conflict (w .mode) o s) (q refl) (p refl) ∙ not-true (conflict (w .mode) 2 3) g)
+      go true false p q g = never g
+      go false y p q g = never g
 
 -- the modes m of w and o of r are asked only where r is near
 module _ (w r : Lock) (l : ℕ) (b : Bool) (e : b ≡ near w l r) where

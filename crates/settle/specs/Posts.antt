@@ -1,7 +1,7 @@
 -- What the functions of settling promise each other. No public contract of the store cites this file.
 use Prim.Native.Nat.{ℕ, _+_, _-_, _≤_, _<_, min}
 use mathlib.Core.Path.{_≡_}
-use mathlib.Core.Bool.{Bool, false, _&&_, cond}
+use mathlib.Core.Bool.{Bool, false, not, _&&_, cond}
 use mathlib.Core.List.{List, [], _∷_, map}
 use lib.Dec.{T, eqb}
 use lib.ListN.{length, getD, take}
@@ -9,7 +9,8 @@ use Rattle.common.specs.Counters.{width}
 use Rattle.common.specs.Ranges.{overlap, eof}
 use Rattle.common.specs.Tests.{all, any}
 use Rattle.xdr.specs.Array.{putElements}
-use Rattle.modes.specs.Codes.{knownMode, granted, asked, canceling}
+use Rattle.modes.specs.Codes.{knownMode, nbw, granted, asked, canceling}
+use Rattle.modes.specs.Conflict.{conflict}
 use Rattle.table.specs.declared.Lock.{Lock}
 use Rattle.table.specs.Table.{Table, blank, nth}
 use Rattle.table.specs.Sound.{sound}
@@ -44,6 +45,10 @@ pub record First (p : Lock → Bool) (n : ℕ) (rs : List Lock) (r : ℕ) : Type
 -- r has w's stripe, and a byte of what w asks up to l
 abbrev pub near : Lock → ℕ → Lock → Bool
 near w l r = eqb (w .stripe) (r .stripe) && overlap (w .first) l (r .first) (r .last)
+
+-- r is a canceling NBW, and w's mode passes it
+abbrev pub passes : Lock → Lock → Bool
+passes w r = (eqb (r .state) canceling && eqb (r .mode) nbw) && not (conflict (w .mode) nbw canceling)
 
 -- w's last byte, m so far, cut by r
 abbrev pub cutBy : Lock → ℕ → Lock → ℕ

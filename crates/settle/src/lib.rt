@@ -14,7 +14,7 @@ ghost use Rattle.table.specs.Places.{lockAt, Shape};
 ghost use Rattle.locks.specs.Conflicts.{against, conflicts, obstacle, hurries};
 ghost use Rattle.locks.specs.Settle.{given, widest, nextNumber, turn, turns, presses, wanted, revoke};
 ghost use Rattle.locks.specs.Events.{eventsSize};
-ghost use Rattle.settle.specs.Posts.{Good, Fair, Past, First, near, cutBy, grantedAs, Took, Due, putEvents, fresh, Did, revokeAt, Wanted, Settles};
+ghost use Rattle.settle.specs.Posts.{Good, Fair, Past, First, near, passes, cutBy, grantedAs, Took, Due, putEvents, fresh, Did, revokeAt, Wanted, Settles};
 
 // The states of a record.
 const WAITING: u64 = 0;
@@ -25,8 +25,10 @@ const ASKED: u64 = 2;
 
 pub const CANCELING: u64 = 3;
 
-// The mode that takes no number.
+// The mode that takes no number, and the one that some modes pass once it is canceling.
 const PR: u64 = 1;
+
+const NBW: u64 = 2;
 
 // The last byte that a range can have.
 pub const EOF: u64 = 9223372036854775807;
@@ -57,12 +59,12 @@ fn stripe_at(t: &[u8], i: usize) -> u64
     xdr::u32_at(t, table::RECORDS + table::RECORD_BYTES * i + table::STRIPE)
 }
 
-// Reads the mode of the record at place i.
-fn mode_at(t: &[u8], i: usize) -> u64
-    requires { ⌜ (length (now t) ≡ tableSize width) × (i < 256) ⌝ }
-    ensures { λ r. ⌜ r ≡ lockAt (now (t .entry)) i .mode ⌝ }
+// Reads the mode of the record at place i. A known mode stands in the last byte of its field.
+fn mode_at(t: &[u8], n: usize, i: usize) -> u64
+    requires { ⌜ Fair n (now t) × (i < n) ⌝ }
+    ensures { λ r. ⌜ (r ≡ lockAt (now (t .entry)) i .mode) × (1 ≤ r) × (r ≤ 4) ⌝ }
 {
-    xdr::u32_at(t, table::RECORDS + table::RECORD_BYTES * i + table::MODE)
+    t[table::RECORDS + table::RECORD_BYTES * i + table::MODE + 3] as u64
 }
 
 // Reads the state of the record at place i.
@@ -107,7 +109,7 @@ fn meets(t: &[u8], n: usize, i: usize, j: usize, l: u64) -> bool
         return false;
     }
     (handle_at(t, i) != handle_at(t, j))
-        & modes::conflict(mode_at(t, i), mode_at(t, j), state_at(t, j))
+        & modes::conflict(mode_at(t, n, i), mode_at(t, n, j), state_at(t, j))
 }
 
 // Says whether the record at place j conflicts with what the one at place i asks.
@@ -118,12 +120,29 @@ fn conflicts(t: &[u8], n: usize, i: usize, j: usize) -> bool
     meets(t, n, i, j, last_at(t, i))
 }
 
+// Says whether the record at place j is a canceling NBW that the mode of the one at place i passes.
+fn passes(t: &[u8], n: usize, i: usize, j: usize) -> bool
+    requires { ⌜ Fair n (now t) × (i < n) × (j < n) ⌝ }
+    ensures { λ b. ⌜ b ≡ passes (lockAt (now (t .entry)) i) (lockAt (now (t .entry)) j) ⌝ }
+{
+    if state_at(t, j) != CANCELING {
+        return false;
+    }
+    if mode_at(t, n, j) != NBW {
+        return false;
+    }
+    !modes::conflict(mode_at(t, n, i), NBW, CANCELING)
+}
+
 // Says whether the record at place j keeps the one at place i waiting.
 fn hinders(t: &[u8], n: usize, i: usize, j: usize) -> bool
     requires { ⌜ Fair n (now t) × (i < n) × (j < n) ⌝ }
     ensures { λ b. ⌜ b ≡ obstacle (lockAt (now (t .entry)) i) (lockAt (now (t .entry)) j) ⌝ }
 {
     if !((state_at(t, j) != WAITING) | (handle_at(t, j) < handle_at(t, i))) {
+        return false;
+    }
+    if passes(t, n, i, j) {
         return false;
     }
     conflicts(t, n, i, j)
@@ -186,12 +205,12 @@ fn blocked(t: &[u8], n: usize, i: usize) -> bool
     false
 }
 
-// Says whether a later request wants what the record at place i asks.
+// Says whether a later request wants what the record at place i asks; none stands before it.
 fn hurried(t: &[u8], n: usize, i: usize) -> bool
-    requires { ⌜ Fair n (now t) × (i < n) ⌝ }
+    requires { ⌜ Fair n (now t) × (i < n) × Past (hurries (lockAt (now t) i)) n (locksOf width (now t)) i ⌝ }
     ensures { λ b. ⌜ b ≡ any (hurries (lockAt (now (t .entry)) i)) (locksOf width (now (t .entry))) ⌝ }
 {
-    for j in 0..n {
+    for j in i..n {
         if hurrying(t, n, i, j) {
             return true;
         }
@@ -230,7 +249,7 @@ pub fn given(w: Lock, state: u64, number: u64, last: u64) -> Lock
 
 // Makes of w, the record at place i, what it is granted as, with the number v.
 fn granted(t: &[u8], n: usize, i: usize, w: Lock, v: u64) -> Lock
-    requires { ⌜ Fair n (now t) × (i < n) × (w ≡ lockAt (now t) i) ⌝ }
+    requires { ⌜ Fair n (now t) × (i < n) × (w ≡ lockAt (now t) i) × Past (hurries (lockAt (now t) i)) n (locksOf width (now t)) i ⌝ }
     ensures { λ r. ⌜ r ≡ grantedAs (locksOf width (now (t .entry))) w v ⌝ }
 {
     if hurried(t, n, i) {

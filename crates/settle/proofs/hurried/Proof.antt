@@ -1,7 +1,6 @@
 -- `hurried`: a search.
 use borrow.Author.Needs.{needs}
 use Prim.Native.Nat.{_-_}
-use mathlib.Core.Path.{refl}
 use Rattle.common.specs.Counters.{width}
 use Rattle.table.specs.Bytes.{locksOf}
 use Rattle.table.specs.Places.{lockAt}
@@ -19,4 +18,4 @@ abbrev μ-loop : tie.MeasureT-loop
 
 pub hurried-spec : {M : Type 1} → statement M
 hurried-spec =
-    tie.close (tie.spec Inv-loop μ-loop (λ c. record { most = search needs; none = refl }) (λ c κs. search needs) (λ c. search scan-hit) (λ c. search needs) (λ c. search needs) (λ c. search scan-miss) (λ c. search scan-end))
+    tie.close (tie.spec Inv-loop μ-loop (λ c. search needs) (λ c κs. search needs) (λ c. search scan-hit) (λ c. search needs) (λ c. search needs) (λ c. search scan-miss) (λ c. search scan-end))

@@ -1,13 +1,13 @@
--- `mode_at`: the field that the code reads is that of the layout.
-use Rattle.xdr.specs.Layout.{fields}
-use Rattle.table.specs.Places.{lockAt}
+-- `mode_at`: the other bytes of a known mode's field are zeros.
+use Prim.Native.Nat.{_+_, _*_}
+use native.Mathlib.Omega.{arith}
+use Rattle.settle.proofs.Scan.{mode-byte}
 use borrow.Author.Needs.{needs}
 use Rattle.settle.proofs.mode_at.Statement.{statement}
 use Rattle.settle.proofs.mode_at.Tie as tie
 
-returns : tie.Need-returns
-unfolding lockAt fields
-returns c = c .u32-at .ensures .0
+cast-result : tie.Need-cast-result
+cast-result c = omega (arith, c .shared-slice-known .given (72 + 40 * c .before .args .i + 12 + 3))
 
 pub mode-at-spec : {M : Type 1} → statement M
-mode-at-spec = tie.close (tie.spec (search needs) (search needs) (search needs) (search needs) returns)
+mode-at-spec = tie.close (tie.spec (search needs) (search needs) (search needs) (search needs) (search needs) cast-result (λ c. mode-byte _ _ _ (c .before .pre .0) (c .before .pre .1)))
