@@ -2,12 +2,11 @@
 use Prim.Native.Nat.{ℕ, _+_, _^_, _≤_, _<_}
 use native.Mathlib.Omega.{arith}
 use mathlib.Core.List.{List, [], _∷_, _++_}
-use mathlib.Core.Bool.{not, _&&_}
-use mathlib.Core.Path.{_≡_, refl, sym, ap, subst, _∙_}
-use lib.Dec.{T, leb, ltb, eqb, leb→le, nleb→lt, nltb→le}
+use mathlib.Core.Bool.{not}
+use mathlib.Core.Path.{_≡_, sym, ap, subst, _∙_}
+use lib.Dec.{T, leb→le, nleb→lt, nltb→le}
 use lib.ListN.{length}
 use Rattle.common.specs.Counters.{width, highest}
-use Rattle.common.specs.Ranges.{range}
 use Rattle.common.specs.Refusals.{firstHit}
 use Rattle.common.proofs.Bools.{and-l, and-r, undo}
 use Rattle.common.proofs.Order.{eq→eqb}

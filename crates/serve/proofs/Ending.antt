@@ -1,13 +1,12 @@
 -- How a call ends: with a refusal, which leaves all bytes, or with the changed table settled.
 use Prim.Native.Nat.{ℕ}
-use mathlib.Core.Bool.{Bool, not, cond}
+use mathlib.Core.Bool.{Bool, cond}
 use mathlib.Core.List.{List, []}
 use mathlib.Core.Path.{_≡_, refl, sym, ap, subst, _∙_}
-use lib.Dec.{T, T-not, eqb, eqb→eq}
+use lib.Dec.{T, eqb→eq}
 use lib.ListN.{length}
-use borrow.Author.Tests.{eq-eqb, ne-eqb}
+use borrow.Author.Tests.{ne-eqb}
 use Rattle.common.specs.Counters.{width}
-use Rattle.common.proofs.Bools.{false-is, cond-true, cond-false}
 use Rattle.common.proofs.Order.{eq→eqb}
 use Rattle.table.specs.Table.{Table}
 use Rattle.table.specs.Sound.{sound}
@@ -18,7 +17,7 @@ use Rattle.table.proofs.Records.{locks-length}
 use Rattle.locks.specs.declared.Message.{Message}
 use Rattle.locks.specs.Settle.{settle}
 use Rattle.locks.specs.Refusals.{refusal}
-use Rattle.locks.specs.Serve.{Outcome, change, answered, accepted, refused, serve}
+use Rattle.locks.specs.Serve.{change, answered, refused, serve}
 use Rattle.locks.specs.Events.{eventsOver}
 use Rattle.locks.proofs.Served.{change-sound}
 use Rattle.settle.specs.Posts.{Good, Settles}

@@ -1,5 +1,5 @@
 -- Acknowledge, downgrade and release: refused by their rows, or the one record that they name changes as the rules say.
-use Prim.Native.Nat.{ℕ, suc, _-_, _≤_, _<_}
+use Prim.Native.Nat.{ℕ, _-_, _<_}
 use native.Mathlib.Numerals.{add-one}
 use native.Mathlib.Omega.{arith}
 use mathlib.Core.Bool.{Bool, true, false, not, _&&_, cond}
@@ -13,12 +13,12 @@ use Rattle.common.specs.Refusals.{firstHit}
 use Rattle.common.proofs.Bools.{and-l, and-false, and-both}
 use Rattle.modes.specs.Codes.{canceling}
 use Rattle.table.specs.declared.Lock.{Lock}
-use Rattle.table.specs.Table.{Table, nth, numberOf}
+use Rattle.table.specs.Table.{Table, nth}
 use Rattle.table.specs.Bytes.{locksOf, tableOf}
 use Rattle.table.specs.Places.{lockAt, FitsTable, Holds, withLock, withLocks, without}
 use Rattle.locks.specs.declared.Message.{Message}
 use Rattle.locks.specs.declared.Message.the-variants.{Acknowledge, Downgrade, Release}
-use Rattle.locks.specs.Settle.{given, inState}
+use Rattle.locks.specs.Settle.{inState}
 use Rattle.locks.specs.Refusals.{named, mayAcknowledge, mayDowngrade, namingRules, rules, refusal}
 use Rattle.locks.specs.Serve.{downgraded, change, answered, serve}
 use Rattle.settle.specs.Posts.{Good, First}

@@ -4,22 +4,21 @@ use native.Mathlib.Omega.{arith}
 use mathlib.Core.Bool.{Bool, true, false, not, _&&_, cond}
 use mathlib.Core.List.{List, [], _∷_, _++_, map}
 use mathlib.Core.Logic.{_⊎_, ⊎-elim}
-use mathlib.Core.Path.{_≡_, refl, sym, ap, subst, _∙_}
+use mathlib.Core.Path.{_≡_, sym, ap, subst, _∙_}
 use lib.Dec.{T, not-T, eqb, ltb, leb, eqb→eq, ltb→lt}
-use lib.ListN.{length, getD, set, take, drop}
+use lib.ListN.{set, take, drop}
 use lib.Seq.{split-at, set-split, take-all}
-use borrow.Author.Tests.{ltb-false, leb-false, le-ltb, le-leb, lt-leb, not-false}
+use borrow.Author.Tests.{leb-false, le-leb, lt-leb, not-false}
 use Rattle.common.specs.Counters.{width}
 use Rattle.common.specs.Refusals.{rule, firstHit}
 use Rattle.common.specs.Tests.{all, any, keep, pairs}
-use Rattle.common.proofs.Bools.{and-l, and-i, true-is}
+use Rattle.common.proofs.Bools.{and-l, true-is}
 use Rattle.common.proofs.Listed.{all-imp, pairs-before, pairs-after}
 use Rattle.common.proofs.Lone.{no, lone-any, lone-keep, lone-map}
 use Rattle.common.proofs.Order.{below}
 use Rattle.common.proofs.Refusals.{hit}
-use Rattle.common.proofs.Rows.{row-hit, row-on}
 use Rattle.table.specs.declared.Lock.{Lock}
-use Rattle.table.specs.Table.{Table, handleOf, blank, nth, maxClient}
+use Rattle.table.specs.Table.{handleOf, blank, nth, maxClient}
 use Rattle.table.specs.Sound.{agree, differ, share}
 use Rattle.table.specs.Bytes.{locksOf, tableOf}
 use Rattle.table.proofs.Facts.{sound→}

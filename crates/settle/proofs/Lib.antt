@@ -1,5 +1,7 @@
 pub mod Tests
+pub mod Passing
 pub mod Scan
+pub mod Known
 pub mod Widths
 pub mod Taking
 pub mod Written

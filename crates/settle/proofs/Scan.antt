@@ -1,26 +1,23 @@
 -- A question asked of one record after the other: none of the first i answers yes.
-use Prim.Native.Nat.{ℕ, _+_, _*_, _≤_, _<_}
+use Prim.Native.Nat.{ℕ, _+_, _≤_, _<_}
 use native.Mathlib.Omega.{arith}
 use native.Mathlib.Numerals.{add-one}
 use mathlib.Core.Bool.{Bool, true, false}
 use mathlib.Core.List.{List}
 use mathlib.Core.Path.{_≡_, sym, ap, subst, _∙_}
-use lib.Dec.{T, eqb, leb, leb→le}
+use lib.Dec.{T, eqb}
 use lib.ListN.{length, getD}
 use lib.Seq.{take-all}
 use borrow.Author.Tests.{eq-eqb, ne-eqb}
 use Rattle.common.specs.Counters.{width}
 use Rattle.common.specs.Tests.{any}
-use Rattle.common.proofs.Bools.{and-l, and-r}
-use Rattle.common.proofs.Scans.{none-more, some-here, all-here}
-use Rattle.xdr.specs.Be.{be}
-use Rattle.xdr.specs.Layout.{fields}
+use Rattle.common.proofs.Scans.{none-more, some-here}
 use Rattle.table.specs.declared.Lock.{Lock}
 use Rattle.table.specs.Table.{blank}
 use Rattle.table.specs.Bytes.{locksOf}
 use Rattle.table.specs.Places.{lockAt, Shape}
 use Rattle.table.proofs.Records.{locks-length, locks-at}
-use Rattle.settle.specs.Posts.{Fair, moded, Past, First}
+use Rattle.settle.specs.Posts.{Past, First}
 
 pub inside : (n i : ℕ) (t : List ℕ) → Shape n t → i < n → i < length (locksOf width t)
 inside n i t S h = let l = locks-length t in let c = S .count in omega arith
@@ -33,9 +30,6 @@ nth-is n i t r S h e = locks-at t i (let c = S .count in omega arith) ∙ sym e
 module _ (n i : ℕ) (t : List ℕ) where
   here : Shape n t → i < n → getD (locksOf width t) i blank ≡ lockAt t i
   here S h = locks-at t i (let c = S .count in omega arith)
-
-  pub mode-known : Fair n t → i < n → T (moded (lockAt t i))
-  mode-known F h = subst (λ (x : Lock). T (moded x)) (here (F .shape) h) (all-here moded blank (locksOf width t) i (inside n i t (F .shape) h) (F .modes))
 
   module _ (p : Lock → Bool) where
     pub scan-hit : (b : Bool) → Shape n t → i < n → b ≡ p (lockAt t i) → b ≡ true → true ≡ any p (locksOf width t)
@@ -66,19 +60,3 @@ reads-not v x k e f = ne-eqb x k (λ g. f (e ∙ g))
 
 pub scan-none : (n i : ℕ) (rs : List Lock) (p : Lock → Bool) → n ≤ i → Past p n rs i → First p n rs n
 scan-none n i rs p h s = let q : i ≡ n = omega (arith, s .most) in record { past = rw q at s; here = λ k. absurd (let z : ⊥ = omega arith in z) }
-
--- a known mode stands in the last byte of its field
-last-byte : (t : List ℕ) (at : ℕ) → be 4 t at ≤ 4 → getD t (at + 3) 0 ≡ be 4 t at
-unfolding be
-last-byte t at h = omega arith
-
-pub mode-byte : (n i : ℕ) (t : List ℕ) → Fair n t → i < n
-    → (getD t (72 + 40 * i + 12 + 3) 0 ≡ lockAt t i .mode) × (1 ≤ getD t (72 + 40 * i + 12 + 3) 0) × (getD t (72 + 40 * i + 12 + 3) 0 ≤ 4)
-unfolding lockAt fields
-mode-byte n i t F h =
-    let m : ℕ = lockAt t i .mode in
-    let k = mode-known n i t F h in
-    let lo : 1 ≤ m = leb→le 1 m (and-l (leb 1 m) (leb m 4) k) in
-    let hi : m ≤ 4 = leb→le m 4 (and-r (leb 1 m) (leb m 4) k) in
-    let e : getD t (72 + 40 * i + 12 + 3) 0 ≡ m = last-byte t (72 + 40 * i + 12) hi in
-    (e, subst (λ (x : ℕ). 1 ≤ x) (sym e) lo, subst (λ (x : ℕ). x ≤ 4) (sym e) hi)

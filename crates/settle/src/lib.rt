@@ -205,7 +205,7 @@ fn blocked(t: &[u8], n: usize, i: usize) -> bool
     false
 }
 
-// Says whether a later request wants what the record at place i asks; none stands before it.
+// Says whether a later request, which stands after place i, wants what the record there asks.
 fn hurried(t: &[u8], n: usize, i: usize) -> bool
     requires { ⌜ Fair n (now t) × (i < n) × Past (hurries (lockAt (now t) i)) n (locksOf width (now t)) i ⌝ }
     ensures { λ b. ⌜ b ≡ any (hurries (lockAt (now (t .entry)) i)) (locksOf width (now (t .entry))) ⌝ }

@@ -1,5 +1,4 @@
 -- `serve`: each arm of the match serves its message.
-use mathlib.Core.Path.{_≡_, sym, subst}
 use Rattle.serve.proofs.Ending.{counted}
 use borrow.Author.Needs.{needs}
 use Rattle.serve.proofs.serve.Statement.{statement}

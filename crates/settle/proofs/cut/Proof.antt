@@ -1,4 +1,5 @@
-use Rattle.settle.proofs.Tests.{uncut, cut-to}
+-- `cut`: a record that conflicts up to m cuts it.
+use Rattle.settle.proofs.Widths.{uncut, cut-to}
 use borrow.Author.Needs.{needs}
 use Rattle.settle.proofs.cut.Statement.{statement}
 use Rattle.settle.proofs.cut.Tie as tie

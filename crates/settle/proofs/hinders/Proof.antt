@@ -1,5 +1,6 @@
 -- `hinders`: a conflict is asked only of a record that is held or earlier, and is not passed.
-use Rattle.settle.proofs.Tests.{stands-behind, let-pass, in-the-way}
+use Rattle.settle.proofs.Tests.{stands-behind, in-the-way}
+use Rattle.settle.proofs.Passing.{let-pass}
 use borrow.Author.Needs.{needs}
 use Rattle.settle.proofs.hinders.Statement.{statement}
 use Rattle.settle.proofs.hinders.Tie as tie

@@ -1,7 +1,7 @@
--- `mode_at`: the other bytes of a known mode's field are zeros.
+-- `mode_at`: a known mode stands in the last byte.
 use Prim.Native.Nat.{_+_, _*_}
 use native.Mathlib.Omega.{arith}
-use Rattle.settle.proofs.Scan.{mode-byte}
+use Rattle.settle.proofs.Known.{mode-byte}
 use borrow.Author.Needs.{needs}
 use Rattle.settle.proofs.mode_at.Statement.{statement}
 use Rattle.settle.proofs.mode_at.Tie as tie

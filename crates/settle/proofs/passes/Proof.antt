@@ -1,5 +1,5 @@
 -- `passes`: each answer is a case of the test.
-use Rattle.settle.proofs.Tests.{not-canceling, not-nbw, passing}
+use Rattle.settle.proofs.Passing.{not-canceling, not-nbw, passing}
 use borrow.Author.Needs.{needs}
 use Rattle.settle.proofs.passes.Statement.{statement}
 use Rattle.settle.proofs.passes.Tie as tie
