@@ -25,6 +25,9 @@ turn-requires c κs =
     let l = did-long _ _ _ _ _ _ _ D in
     (search turns-good, search needs, omega arith, omega arith)
 
+loop-again : tie.Need-loop-again Inv-loop μ-loop
+loop-again c = (search needs, turns-more _ _ _ _ _ _ _ _ _ _ (c .before .before .before .before .before .before .before .before .loop .inv .1) (c .before .before .before .before .turn .ensures))
+
 returns : tie.Need-returns Inv-loop μ-loop
 returns c =
     let e : _≡_ {A = ℕ} (c .before .loop .i) (c .before .before .before .before .args .n) = omega arith in
@@ -32,4 +35,4 @@ returns c =
 
 pub grants-spec : {M : Type 1} → statement M
 grants-spec =
-    tie.close (tie.spec Inv-loop μ-loop (λ c. (search needs, search turns-none)) turn-requires (λ c. search needs) (λ c. search needs) (λ c. (search needs, search turns-more)) (λ c. search needs) (λ c. search did-long) returns)
+    tie.close (tie.spec Inv-loop μ-loop (λ c. (search needs, search turns-none)) turn-requires (λ c. search needs) (λ c. search needs) loop-again (λ c. search needs) (λ c. search did-long) returns)
