@@ -8,6 +8,7 @@ use Rattle.common.specs.Tests.{keep}
 use Rattle.modes.specs.Codes.{waiting, canceling, nbw}
 use Rattle.table.specs.declared.Lock.{Lock}
 use Rattle.table.specs.Table.{Table}
+use Rattle.table.specs.Places.{withLocks}
 use Rattle.locks.specs.declared.Message.{Message}
 use Rattle.locks.specs.declared.Message.the-variants.{Request, Acknowledge, Downgrade, Release}
 use Rattle.locks.specs.Settle.{Event, Settled, settle, inState}
@@ -39,9 +40,6 @@ downgraded r =
       first = r .first;
       last = r .last;
     }
-
-abbrev pub withLocks : Table → List Lock → Table
-withLocks t rs = record { issued = t .issued; lasts = t .lasts; locks = rs }
 
 -- "An accepted message does its own change (add a waiting record; state 2 to 3; mode to NBW; remove the record)."
 unfoldable pub change : Table → Message → Table

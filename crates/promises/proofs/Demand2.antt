@@ -17,7 +17,7 @@ use Rattle.common.proofs.Sublist.{sub-all}
 use Rattle.xdr.specs.Be.{Bytes}
 use Rattle.xdr.specs.Layout.{Fit}
 use Rattle.xdr.specs.Array.{array, arraySize, Fits}
-use Rattle.xdr.proofs.Arrays.{array-put, put-array-other}
+use Rattle.xdr.proofs.Arrays.{array-put, put-array-other, put-array-length}
 use Rattle.modes.specs.Codes.{asked}
 use Rattle.table.specs.declared.Lock.{Lock}
 use Rattle.table.specs.Table.{Table, empty, handleOf}
@@ -120,6 +120,13 @@ module _ (X : Table) (m : Message) (t b : List ℕ) (r : Answer) (u c : List ℕ
       ∙ by-cond (λ (x : List ℕ). getD x k 0 ≡ getD b k 0) (eqb (serve X m .refusal) 0) (eventsOver width b (serve X m .events)) b
       (λ e. put-array-other (eventLayout width) b 0 (map eventFields (serve X m .events)) k (λ j p d. let l = long in omega arith)) (λ e. refl)
 
+  buffer-kept : length c ≡ length b
+  unfolding eventsOver
+  buffer-kept =
+      ap length (K .events)
+      ∙ by-cond (λ (x : List ℕ). length x ≡ length b) (eqb (serve X m .refusal) 0) (eventsOver width b (serve X m .events)) b
+      (λ e. put-array-length (eventLayout width) b 0 (map eventFields (serve X m .events))) (λ e. refl)
+
   pub called : Called X m b r u c
   called =
       let F : Follows (serve (tableOf width t) m .table) u = follows m t b r u c s h L in
@@ -128,6 +135,7 @@ module _ (X : Table) (m : Message) (t b : List ℕ) (r : Answer) (u c : List ℕ
         table = F .says ∙ ap (λ (Y : Table). serve Y m .table) says;
         events = decoded;
         beyond = beyond;
+        long = buffer-kept;
         sound = F .sound;
         once = distinct (serve X m .events) (O .one-each);
         few = O .at-most;

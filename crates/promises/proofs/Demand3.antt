@@ -10,12 +10,13 @@ use Rattle.runs.specs.Owner.{owner}
 use Rattle.common.specs.Counters.{width}
 use Rattle.runs.specs.Bytes.{logSize}
 use Rattle.runs.proofs.Blank.{no-runs}
-use Rattle.promises.specs.Run.{Piece, ageOf, Covers, byteOf, Map, lost, live, Stripe, begin, Step, next, after, notes, noted, Write, writes, accepted, pieces}
-use Rattle.promises.specs.Demand3.{Among, HasWrite, Finished, Demand3, LogsMap, Steady, Always}
+use Rattle.promises.specs.Run.{Piece, ageOf, Covers, byteOf, Map, lost, live, Stripe, begin, Step, next, after, notes, noted, Write, writes, accepted}
+use Rattle.promises.specs.Among.{Among}
+use Rattle.promises.specs.Demand3.{HasWrite, Finished, Demand3, LogsMap, Steady, Always}
 use Rattle.promises.proofs.Carried.{entriesOf, IsMap, Carried, carried, begin-carried, restarts}
 use Rattle.promises.proofs.Views.{covered, given, given-in, given-out, View, quiet, new, wrote, view}
 use Rattle.promises.proofs.Byte.{Start, finished-drop, has-right, step}
-use Rattle.promises.proofs.Pieces.{noted-pieces, accepted-pieces}
+use Rattle.promises.proofs.Pieces.{greatest}
 
 -- the greatest age that pieces give a byte
 top : List Piece → ℕ → ℕ
@@ -81,9 +82,10 @@ demand3 image es agree sent finished =
     let g : Carried s = begin-carried image in
     let z : (b : ℕ) → owner (entriesOf s) b ≡ 0 = λ b. ap (λ (rs : List Run). owner rs b) (no-runs (logSize width)) in
     record {
+      some = greatest (noted s es);
       under = λ b p G.
           under es s b (ageOf p) (byteOf p b) g (omega (arith, z b)) (top-most (noted s es) b (ageOf p) (G .2)) finished
-          (λ q h k a. agree q p (accepted-pieces q es s h) (noted-pieces p es s (G .0)) a b k (G .1))
+          (λ q h k a. agree q p h (sent p (G .0)) a b k (G .1))
           (inr (p, sent p (G .0), G .1, refl));
       other = λ b h. other es s b g (omega (arith, z b)) (top-most (noted s es) b 0 (λ q m c. absurd (h q m c)));
       long = long es s g;

@@ -1,14 +1,16 @@
 -- P1 to P11 on bytes: messages, notes and writes on bytes follow the rules, and of the rules the table of examples holds.
 use Prim.Native.Nat.{ℕ}
+use native.Mathlib.Omega.{arith}
 use mathlib.Core.Bool.{Bool, true, false, cond}
 use mathlib.Core.List.{List, [], _∷_, _++_, map}
 use mathlib.Core.Logic.{inl, inr}
-use mathlib.Core.Path.{_≡_, refl, sym, ap, ap₂, _∙_}
+use mathlib.Core.Path.{_≡_, refl, sym, ap, ap₂, subst, _∙_}
 use lib.Dec.{eqb}
 use lib.ListN.{replicate}
 use borrow.Author.Tests.{eqb-true}
 use Rattle.common.specs.Counters.{width}
 use Rattle.common.proofs.Bools.{never}
+use Rattle.xdr.specs.Be.{Bytes}
 use Rattle.xdr.specs.Array.{array}
 use Rattle.table.specs.Table.{Table}
 use Rattle.table.specs.Bytes.{tableSize, tableOf, soundTableBytes}
@@ -20,11 +22,15 @@ use Rattle.locks.specs.declared.Message.{Message}
 use Rattle.locks.specs.Serve.{Outcome, serve}
 use Rattle.locks.specs.Events.{eventLayout, eventFields}
 use Rattle.serve.specs.declared.Answer.{Answer}
+use Rattle.promises.specs.Demand1.{Served}
 use Rattle.promises.specs.Demand2.{Called}
 use Rattle.promises.specs.Run as run
 use Rattle.promises.specs.Examples.{Row, sending, calling, dots, computed, lines, session, examples, examples-hold}
 use Rattle.promises.specs.Examples as examples
 use Rattle.promises.specs.OnBytes.{shown, Prints, done, call, Holds, AllHold, OnBytes}
+use Rattle.promises.proofs.Determined.{of-message}
+use Rattle.promises.proofs.Encoding.{blank-bytes}
+use Rattle.promises.proofs.Reached.{buffer, buffer-long}
 use Rattle.promises.proofs.Outcomes.{Alone, served-alone}
 use Rattle.promises.proofs.Sessions.{zeros-empty, zeros-sound}
 use Rattle.promises.proofs.Demand2.{called}
@@ -47,6 +53,15 @@ prints done s = refl
 prints (call {t = t} {u = u} {b = b} {c = c} {m = m} {ms = ms} {r = r} {ls = ls} h L P) s =
     let C = called (tableOf width t) m t b r u c refl s h L in
     ap₂ (λ (x y : List (List ℕ)). x ++ y) (shown-is (tableOf width t) m b r u c C) (prints P (C .sound) ∙ ap (λ (X : Table). session X ms) (C .table))
+
+-- there are such calls
+some-print : (ms : List Message) (t : List ℕ) → Bytes t → (ls : List (List ℕ)) × Prints t ms ls
+some-print [] t h = ([], done)
+some-print (m ∷ ms) t h =
+    let P = of-message m t buffer h in
+    let x : Served = P .some in
+    let more = some-print ms (x .table) (P .meets .1) in
+    (shown (x .answer) (x .events) ++ more .0, call {b = buffer} (omega (arith, buffer-long)) (P .meets .0) (more .1))
 
 -- the parts of a row
 printedOf : Row → List (List ℕ)
@@ -71,7 +86,11 @@ begins = λ i. record { map = no-runs (mapSize width) i; log = no-runs (logSize 
 row-holds : (r : Row) → computed r ≡ r → Holds r
 unfolding printedOf answeredOf mapOf imageOf
 row-holds (sending sent printed) e =
-    λ ls P. prints P zeros-sound ∙ ap (λ (X : Table). session X sent) (zeros-empty (tableSize width)) ∙ ap printedOf e
+    let zero-table : List ℕ = replicate (tableSize width) 0 in
+    let only : (ls : List (List ℕ)) → Prints zero-table sent ls → ls ≡ printed =
+    λ ls P. prints P zeros-sound ∙ ap (λ (X : Table). session X sent) (zeros-empty (tableSize width)) ∙ ap printedOf e in
+    let some = some-print sent zero-table (blank-bytes (tableSize width)) in
+    (subst (λ (ls : List (List ℕ)). Prints zero-table sent ls) (only (some .0) (some .1)) (some .1), only)
 row-holds (calling made answered m image) e =
     let F = follows made (replicate (mapSize width) 0) (replicate (logSize width) 0) dots (begin-carried dots) in
     let s = F .stripe ∙ ap (λ (x : rules.Stripe). examples.after x made) begins in (

@@ -12,7 +12,7 @@ use Rattle.table.specs.Bytes.{tableSize}
 use Rattle.locks.specs.Session.{after, events, numbers}
 use Rattle.locks.proofs.Sessions.{session-numbers}
 use Rattle.promises.specs.Run.{Piece, Covers, begin, noted}
-use Rattle.promises.specs.Demand3.{Among}
+use Rattle.promises.specs.Among.{Among}
 use Rattle.promises.specs.Seam.{numberAt, Seam}
 use Rattle.promises.proofs.Demand3.{demand3}
 use Rattle.promises.proofs.Sessions.{session-events, zeros-empty, zeros-sound}

@@ -26,7 +26,8 @@ use Rattle.locks.proofs.Served.{change-sound}
 use Rattle.locks.proofs.Events.{Spared, spare}
 use Rattle.locks.proofs.Waits.{stuck, serve-calm}
 use Rattle.locks.proofs.Greatest.{turn-greatest}
-use Rattle.promises.specs.Demand2.{In, Widest, Fair}
+use Rattle.promises.specs.Among.{Among}
+use Rattle.promises.specs.Demand2.{Widest, Fair}
 use Rattle.promises.proofs.Members.{in-all, in-split, in-right, in-keep, keep-in, in-map, map-in}
 
 -- a grant in state 1 was hurried by no request
@@ -47,18 +48,18 @@ module _ (U : Table) (S : Sound (U .issued) (U .lasts) (U .locks)) where
   rs = all-over .table .locks
 
   -- the events of the turns are grants
-  grants : (e : Event) → In e (all-over .events) → e .kind ≡ 1
+  grants : (e : Event) → Among e (all-over .events) → e .kind ≡ 1
   grants e h =
       let P : Spared (all-over .table .lasts) rs [] (all-over .events) = spare U S .law in
-      let k = in-map grantEvent e (P .grants) (subst (λ (l : List Event). In e l) (P .are) h) in
+      let k = in-map grantEvent e (P .grants) (subst (λ (l : List Event). Among e l) (P .are) h) in
       ap (λ (x : Event). x .kind) (k .2)
 
-  pub is-revoked : (e : Event) → In e (settle U .events) → e .kind ≡ 2
-      → (r : Lock) × In r rs × (e ≡ revocation (inState asked r)) × (r .state ≡ granted) × T (any (presses r) rs)
+  pub is-revoked : (e : Event) → Among e (settle U .events) → e .kind ≡ 2
+      → (r : Lock) × Among r rs × (e ≡ revocation (inState asked r)) × (r .state ≡ granted) × T (any (presses r) rs)
   unfolding settle
   is-revoked e h two = go (in-split e (all-over .events) (revocations rs) h)
     where
-      go : In e (all-over .events) ⊎ In e (revocations rs) → (r : Lock) × In r rs × (e ≡ revocation (inState asked r)) × (r .state ≡ granted) × T (any (presses r) rs)
+      go : Among e (all-over .events) ⊎ Among e (revocations rs) → (r : Lock) × Among r rs × (e ≡ revocation (inState asked r)) × (r .state ≡ granted) × T (any (presses r) rs)
       go (inl k) = absurd (let z : ⊥ = (let g = grants e k in omega arith) in z)
       go (inr k) =
           let q = in-map (λ r. revocation (inState asked r)) e (keep (wanted rs) rs) k in
@@ -66,7 +67,7 @@ module _ (U : Table) (S : Sound (U .issued) (U .lasts) (U .locks)) where
           let w = in-keep (wanted rs) r rs (q .1) in
           (r, w .0, q .2, eqb→eq (r .state) granted (and-l (eqb (r .state) granted) (any (presses r) rs) (w .1)), and-r (eqb (r .state) granted) (any (presses r) rs) (w .1))
 
-  pub each-revoked : (r : Lock) → In r rs → r .state ≡ granted → T (any (presses r) rs) → In (revocation (inState asked r)) (settle U .events)
+  pub each-revoked : (r : Lock) → Among r rs → r .state ≡ granted → T (any (presses r) rs) → Among (revocation (inState asked r)) (settle U .events)
   unfolding settle
   each-revoked r h s t =
       in-right (revocation (inState asked r)) (all-over .events) (revocations rs)
@@ -92,26 +93,26 @@ module _ (U : Table) (S : Sound (U .issued) (U .lasts) (U .locks)) where
       let W : Widest (next n) (present n) (becomes n .lock .last) = record { reaches = G .reaches; ends = G .within-eof; clear = G .clear-of-all; greatest = G .no-further } in
       (n, h, q, subst (λ (l : ℕ). Widest (next n) (present n) l) (sym (ap (λ (x : Event). x .lock .last) q)) W)
 
-  wide-turns : (n : ℕ) (e : Event) → n ≤ length (U .locks) → In e (turns n U .events) → e .lock .state ≡ granted → Wide e
+  wide-turns : (n : ℕ) (e : Event) → n ≤ length (U .locks) → Among e (turns n U .events) → e .lock .state ≡ granted → Wide e
   unfolding turns turn
   wide-turns zero e h i s = absurd i
   wide-turns (suc n) e h i s = go (free (present n) (next n)) (λ f. f) (λ j. wide-turns n e (omega arith) j s) i
     where
-      last-one : T (free (present n) (next n)) → (In e (turns n U .events) → Wide e) → In e (turns n U .events) ⊎ In e (becomes n ∷ []) → Wide e
+      last-one : T (free (present n) (next n)) → (Among e (turns n U .events) → Wide e) → Among e (turns n U .events) ⊎ Among e (becomes n ∷ []) → Wide e
       last-one f r (inl j) = r j
       last-one f r (inr (inl q)) = wide-here n e h f q s
       last-one f r (inr (inr z)) = absurd z
 
-      go : (b : Bool) → (T b → T (free (present n) (next n))) → (In e (turns n U .events) → Wide e)
-          → In e ((cond b (granting n (turns n U) (next n) (becomes n .lock)) (turns n U)) .events) → Wide e
+      go : (b : Bool) → (T b → T (free (present n) (next n))) → (Among e (turns n U .events) → Wide e)
+          → Among e ((cond b (granting n (turns n U) (next n) (becomes n .lock)) (turns n U)) .events) → Wide e
       go true f r j = last-one (f tt) r (in-split e (turns n U .events) (becomes n ∷ []) j)
       go false f r j = r j
 
-  pub is-widened : (e : Event) → In e (settle U .events) → e .kind ≡ 1 → e .lock .state ≡ granted → Wide e
+  pub is-widened : (e : Event) → Among e (settle U .events) → e .kind ≡ 1 → e .lock .state ≡ granted → Wide e
   unfolding settle
   is-widened e h one s = go (in-split e (all-over .events) (revocations rs) h)
     where
-      go : In e (all-over .events) ⊎ In e (revocations rs) → Wide e
+      go : Among e (all-over .events) ⊎ Among e (revocations rs) → Wide e
       go (inl k) = wide-turns (length (U .locks)) e (omega arith) k s
       go (inr k) =
           let q = in-map (λ r. revocation (inState asked r)) e (keep (wanted rs) rs) k in
@@ -127,14 +128,14 @@ module _ (X : Table) (m : Message) (q : T (sound X)) (z : T (eqb (refusal X m) 0
   unfolding serve
   is = cond-true (eqb (refusal X m) 0) (accepted (answered X m) (settle (change X m))) (refused X (refusal X m)) z
 
-  own : (e : Event) → In e (serve X m .events) → In e (settle (change X m) .events)
-  own e h = subst (λ (o : Outcome). In e (o .events)) is h
+  own : (e : Event) → Among e (serve X m .events) → Among e (settle (change X m) .events)
+  own e h = subst (λ (o : Outcome). Among e (o .events)) is h
 
   pub serve-fair : Fair X m
   serve-fair = record {
     waiters = λ w h t.
         imp-e (waits w) (any (obstacle w) (serve X m .table .locks)) (in-all (stuck (serve X m .table .locks)) w (serve X m .table .locks) h (serve-calm X m q z .waiters)) t;
     revoked = λ e h k. is-revoked (change X m) good e (own e h) k;
-    each = λ r h s t. subst (λ (o : Outcome). In (revocation (inState asked r)) (o .events)) (sym is) (each-revoked (change X m) good r h s t);
+    each = λ r h s t. subst (λ (o : Outcome). Among (revocation (inState asked r)) (o .events)) (sym is) (each-revoked (change X m) good r h s t);
     widened = λ e h k s. is-widened (change X m) good e (own e h) k s;
   }

@@ -25,11 +25,8 @@ use Rattle.locks.specs.Session.{after, events, numbers}
 use Rattle.serve.specs.declared.Answer.{Answer}
 use Rattle.serve.specs.Serves.{Leaves}
 use Rattle.gilboreth.specs.Messages.{outcome}
+use Rattle.promises.specs.Among.{Among}
 use Rattle.promises.specs.Session.{Session}
-
-abbrev pub In : {A : Type 0} → A → List A → Type 0
-In x [] = ⊥
-In x (y ∷ ys) = (x ≡ y) ⊎ In x ys
 
 abbrev pub Rising : List Lock → Type 0
 Rising rs = T (pairs (λ a b. ltb (handleOf a) (handleOf b)) rs)
@@ -52,15 +49,15 @@ settling X m = turned X m (length (change X m .locks)) .table .locks
 -- What the rules give where they accept the message m on the table X
 pub record Fair (X : Table) (m : Message) : Type 0 where
   -- "no waiter without an obstacle"
-  pub waiters : (w : Lock) → In w (serve X m .table .locks) → T (waits w) → T (any (obstacle w) (serve X m .table .locks))
+  pub waiters : (w : Lock) → Among w (serve X m .table .locks) → T (waits w) → T (any (obstacle w) (serve X m .table .locks))
   -- "every revocation goes to a lock that conflicts with a waiting request, and each such lock in state 1 gets one"
   pub revoked :
-      (e : Event) → In e (serve X m .events) → e .kind ≡ 2
-      → (r : Lock) × In r (settling X m) × (e ≡ revocation (inState asked r)) × (r .state ≡ granted) × T (any (presses r) (settling X m))
-  pub each : (r : Lock) → In r (settling X m) → r .state ≡ granted → T (any (presses r) (settling X m)) → In (revocation (inState asked r)) (serve X m .events)
+      (e : Event) → Among e (serve X m .events) → e .kind ≡ 2
+      → (r : Lock) × Among r (settling X m) × (e ≡ revocation (inState asked r)) × (r .state ≡ granted) × T (any (presses r) (settling X m))
+  pub each : (r : Lock) → Among r (settling X m) → r .state ≡ granted → T (any (presses r) (settling X m)) → Among (revocation (inState asked r)) (serve X m .events)
   -- a grant in state 1 is widened as far as can be, at the turn of its place n
   pub widened :
-      (e : Event) → In e (serve X m .events) → e .kind ≡ 1 → e .lock .state ≡ granted
+      (e : Event) → Among e (serve X m .events) → e .kind ≡ 1 → e .lock .state ≡ granted
       → (n : ℕ) × (n < length (change X m .locks))
       × (e ≡ grantEvent (grant (turned X m n .table .lasts) (turned X m n .table .locks) (nth (turned X m n .table) n)))
       × Widest (nth (turned X m n .table) n) (turned X m n .table .locks) (e .lock .last)
@@ -72,6 +69,7 @@ pub record Called (X : Table) (m : Message) (b : List ℕ) (r : Answer) (u c : L
   pub table : tableOf width u ≡ serve X m .table
   pub events : serve X m .refusal ≡ 0 → array (eventLayout width) c 0 ≡ map eventFields (serve X m .events)
   pub beyond : (k : ℕ) → arraySize (length (serve X m .events)) (eventLayout width) ≤ k → getD c k 0 ≡ getD b k 0
+  pub long : length c ≡ length b
   -- "the table stays sound"
   pub sound : soundTableBytes u ≡ true
   -- "each record at most one event a call", so at most 256; grants in rising handle, then revocations in rising handle

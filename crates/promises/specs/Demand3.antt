@@ -11,19 +11,16 @@ use Rattle.common.specs.Counters.{width}
 use Rattle.runs.specs.Map.{mapOf}
 use Rattle.runs.specs.Bytes.{runsOf, mapSize, soundMapBytes, mapBytes}
 use Rattle.gilboreth.specs.Restart.{restartAnswer}
-use Rattle.promises.specs.Run.{Piece, ageOf, Covers, byteOf, Map, lost, live, Stripe, begin, Step, after, noted, Write, accepted, pieces}
-
-abbrev pub Among : Piece → List Piece → Type 0
-Among p [] = ⊥
-Among p (q ∷ qs) = (p ≡ q) ⊎ Among p qs
+use Rattle.promises.specs.Among.{Among}
+use Rattle.promises.specs.Run.{Piece, ageOf, Covers, byteOf, Map, lost, live, Stripe, begin, Step, after, noted, Write, accepted}
 
 abbrev pub HasWrite : Piece → List Write → Type 0
 HasWrite p [] = ⊥
 HasWrite p (w ∷ ws) = (p ≡ w .piece) ⊎ HasWrite p ws
 
--- "pieces of equal number agree where they overlap"
-abbrev pub Agree : List Piece → Type 0
-Agree ps = (p q : Piece) → Among p ps → Among q ps → ageOf p ≡ ageOf q → (b : ℕ) → Covers p b → Covers q b → byteOf p b ≡ byteOf q b
+-- "pieces of equal number agree where they overlap": of pieces that had a write accepted, and so of each noted piece. A refused piece may say anything
+abbrev pub Agree : List Write → Type 0
+Agree ws = (p q : Piece) → HasWrite p ws → HasWrite q ws → ageOf p ≡ ageOf q → (b : ℕ) → Covers p b → Covers q b → byteOf p b ≡ byteOf q b
 
 -- "the last accepted write of every piece ran to its end": a write that no later one of its piece follows is whole
 abbrev pub Finished : List Write → Type 0
@@ -35,6 +32,7 @@ abbrev pub Greatest : List Piece → ℕ → Piece → Type 0
 Greatest ps b p = Among p ps × Covers p b × ((q : Piece) → Among q ps → Covers q b → ageOf q ≤ ageOf p)
 
 pub record Kept (ps : List Piece) (old new : List ℕ) : Type 0 where
+  pub some : (b : ℕ) (p : Piece) → Among p ps → Covers p b → (q : Piece) × Greatest ps b q
   pub under : (b : ℕ) (p : Piece) → Greatest ps b p → getD new b 0 ≡ byteOf p b
   pub other : (b : ℕ) → ((p : Piece) → Among p ps → Covers p b → ⊥) → getD new b 0 ≡ getD old b 0
   pub long : length new ≡ length old
@@ -42,7 +40,7 @@ pub record Kept (ps : List Piece) (old new : List ℕ) : Type 0 where
 abbrev pub Demand3 : Type 0
 Demand3 =
     (image : List ℕ) (es : List Step)
-    → Agree (pieces es)
+    → Agree (accepted (begin image) es)
     → ((p : Piece) → Among p (noted (begin image) es) → HasWrite p (accepted (begin image) es))
     → Finished (accepted (begin image) es)
     → Kept (noted (begin image) es) image (after (begin image) es .image)

@@ -81,16 +81,18 @@ B = writing 4 (replicate 4 66) 1
 abbrev C : Call
 C = writing 5 (replicate 3 67) 3
 
--- `AAAAACCC..`, map [0,4] 2, [5,7] 3
-abbrev inOrder : Call → Call → Call → Row
-inOrder x y z =
-    calling (noteA ∷ noteB ∷ noteC ∷ x ∷ y ∷ z ∷ []) (replicate 6 0) (run 0 4 2 ∷ run 5 7 3 ∷ [])
-    (replicate 5 65 ++ replicate 3 67 ++ replicate 2 46)
+-- `AAAAACCC..`
+abbrev owned : List ℕ
+owned = replicate 5 65 ++ replicate 3 67 ++ replicate 2 46
 
--- P8's notes and [8,9] number 3: second run [5,9]
+-- All noted, then written: map [0,4] 2, [5,7] 3
+abbrev inOrder : Call → Call → Call → Row
+inOrder x y z = calling (noteA ∷ noteB ∷ noteC ∷ x ∷ y ∷ z ∷ []) (replicate 6 0) (run 0 4 2 ∷ run 5 7 3 ∷ []) owned
+
+-- Then note [8,9] number 3: second run [5,9]; and what comes after it
 abbrev joined : List Call → List ℕ → Row
 joined more says =
-    calling (noteA ∷ noteB ∷ noteC ∷ noting 8 2 3 ∷ more) (0 ∷ 0 ∷ 0 ∷ 0 ∷ says) (run 0 4 2 ∷ run 5 9 3 ∷ []) dots
+    calling (noteA ∷ noteB ∷ noteC ∷ A ∷ B ∷ C ∷ noting 8 2 3 ∷ more) (replicate 7 0 ++ says) (run 0 4 2 ∷ run 5 9 3 ∷ []) owned
 
 unfoldable pub examples : List Row
 examples =

@@ -1,4 +1,5 @@
 pub mod Demand1
+pub mod Among
 pub mod Session
 pub mod Demand2
 pub mod Run

@@ -55,9 +55,10 @@ abbrev pub runsIn : Map → List Run
 runsIn lost = []
 runsIn (live m) = runsOf width m
 
--- A row holds on bytes, whatever buffers are lent for events
+-- A row holds on bytes: the calls print its lines, and whatever buffers are lent for events, no other
 abbrev pub Holds : Row → Type 0
-Holds (sending sent printed) = (ls : List (List ℕ)) → Prints (replicate (tableSize width) 0) sent ls → ls ≡ printed
+Holds (sending sent printed) =
+    Prints (replicate (tableSize width) 0) sent printed × ((ls : List (List ℕ)) → Prints (replicate (tableSize width) 0) sent ls → ls ≡ printed)
 Holds (calling made answered map image) =
     (answers (run.begin dots) made ≡ answered) × (runsIn (after (run.begin dots) made .map) ≡ map) × (after (run.begin dots) made .image ≡ image)
 

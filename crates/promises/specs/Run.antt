@@ -138,16 +138,3 @@ writes s cut = []
 unfoldable pub accepted : Stripe → List Step → List Write
 accepted s [] = []
 accepted s (e ∷ es) = writes s e ++ accepted (next s e) es
-
--- The pieces that the steps name
-unfoldable pub pieceOf : Step → List Piece
-pieceOf (note p) = p ∷ []
-pieceOf (noteCut new junk p) = p ∷ []
-pieceOf (write p) = p ∷ []
-pieceOf (writeCut junk p) = p ∷ []
-pieceOf (restart buffer) = []
-pieceOf cut = []
-
-unfoldable pub pieces : List Step → List Piece
-pieces [] = []
-pieces (e ∷ es) = pieceOf e ++ pieces es

@@ -11,8 +11,9 @@ use Rattle.table.specs.Bytes.{tableSize}
 use Rattle.locks.specs.declared.Message.{Message}
 use Rattle.locks.specs.Settle.{Event}
 use Rattle.locks.specs.Session.{numbers}
-use Rattle.promises.specs.Run.{Piece, Covers, byteOf, begin, Step, after, noted, accepted, pieces}
-use Rattle.promises.specs.Demand3.{Among, HasWrite, Agree, Finished}
+use Rattle.promises.specs.Run.{Piece, Covers, byteOf, begin, Step, after, noted, accepted}
+use Rattle.promises.specs.Among.{Among}
+use Rattle.promises.specs.Demand3.{HasWrite, Agree, Finished}
 use Rattle.promises.specs.Session.{Session}
 
 -- The number of a stripe's i-th write grant among the events, counted from 0
@@ -24,7 +25,7 @@ Seam =
     (ms : List Message) (es : List Event) (v : List ℕ) → Session (replicate (tableSize width) 0) ms es v
     → (s i j : ℕ) → i < j → j < length (numbers s es)
     → (image : List ℕ) (run : List Step)
-    → Agree (pieces run)
+    → Agree (accepted (begin image) run)
     → ((p : Piece) → Among p (noted (begin image) run) → HasWrite p (accepted (begin image) run))
     → Finished (accepted (begin image) run)
     → (b : ℕ) (earlier later : Piece)

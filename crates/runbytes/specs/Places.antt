@@ -1,4 +1,4 @@
--- The runs of a map or a log by their places.
+-- The runs of a map or a log by their places. No public contract cites this file.
 use Prim.Native.Nat.{ℕ}
 use mathlib.Core.List.{List}
 use Rattle.common.specs.Counters.{width}

@@ -1,4 +1,4 @@
--- How the test of refusal 18 goes over a map, run by run.
+-- How the test of refusal 18 goes over a map, run by run. No public contract cites this file.
 use Prim.Native.Nat.{ℕ, _+_}
 use mathlib.Core.Bool.{_&&_, cond}
 use lib.Dec.{leb}
