@@ -68,6 +68,10 @@ extern "C" {
  * So answer the client only once the image's bytes are durable. Until then the write counts as cut: the
  * client keeps the piece, and sends its write again after the cut until one ran to its end.
  *
+ * A message. A cut amid a call on the stored table could leave one that is not sound. So lend a copy. When
+ * the call has returned, put the new table down whole beside the old one, and turn to it by one step, as a
+ * rename. Send the events only once that is durable: a grant that the table forgets would be given twice.
+ *
  * After a cut, and at every start: read the log as it is stored, and call gil_restart on it. No note and
  * no write before a restart has answered 0. If the storage fails at step 2 or 3, go on as after a cut.
  *
