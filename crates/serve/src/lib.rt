@@ -1,8 +1,19 @@
 // One message on the bytes of a sound table: its refusals, its own change, and the settling.
+use common::EOF;
+use common::HIGHEST;
 use common::Handle;
 use common::Number;
 use locks::Message;
+use modes::ASKED;
+use modes::BW;
+use modes::CANCELING;
+use modes::NBW;
+use modes::PW;
+use modes::WAITING;
 use table::Lock;
+use table::MAX_CLIENT;
+use table::MAX_RECORDS;
+use table::MAX_STRIPE;
 ghost use mathlib.Core.Path.{_≡_};
 ghost use Prim.Native.Nat.{_≤_, _<_};
 ghost use lib.ListN.{length};
@@ -16,24 +27,6 @@ ghost use Rattle.locks.specs.Serve.{serve, downgraded};
 ghost use Rattle.locks.specs.Events.{eventsSize};
 ghost use Rattle.settle.specs.Posts.{Good, First};
 ghost use Rattle.serve.specs.Serves.{Leaves, Ends, has, placeRules};
-
-// The highest client, stripe and count of handles, and how many records a table has at most.
-const MAX_CLIENT: u64 = 63;
-
-const MAX_STRIPE: u64 = 15;
-
-const MAX_ISSUED: u64 = 4294967295;
-
-const MAX_RECORDS: usize = 256;
-
-// The modes that the tests name, and the state that an acknowledgement wants.
-const NBW: u64 = 2;
-
-const BW: u64 = 3;
-
-const PW: u64 = 4;
-
-const ASKED: u64 = 2;
 
 // What a call answers: its refusal or 0, the handle that it made or named, and how many events it wrote.
 #[repr(C)]
@@ -89,10 +82,10 @@ fn request_refusal(
     if !modes::known_mode(mode) {
         return 5;
     }
-    if !((first <= last) & (last <= settle::EOF)) {
+    if !((first <= last) & (last <= EOF)) {
         return 6;
     }
-    if MAX_ISSUED <= table::issued(t) {
+    if HIGHEST <= table::issued(t) {
         return 7;
     }
     if MAX_RECORDS <= n {
@@ -125,7 +118,7 @@ fn request(
         client: client,
         stripe: stripe,
         mode: mode,
-        state: 0,
+        state: WAITING,
         number: Number(0),
         first: first,
         last: last,
@@ -180,12 +173,7 @@ fn acknowledge(t: &mut [u8], b: &mut [u8], n: usize, client: u64, handle: u64) -
     if l.state != ASKED {
         return refused(11);
     }
-    table::put_lock(
-        t,
-        n,
-        i,
-        settle::given(l, settle::CANCELING, l.number.0, l.last),
-    );
+    table::put_lock(t, n, i, settle::given(l, CANCELING, l.number.0, l.last));
     finish(t, b, n, handle)
 }
 
@@ -218,7 +206,7 @@ fn downgrade(t: &mut [u8], b: &mut [u8], n: usize, client: u64, handle: u64) -> 
         return refused(k);
     }
     let l = table::lock_at(t, i);
-    if !((l.state == settle::CANCELING) & ((BW <= l.mode) & (l.mode <= PW))) {
+    if !((l.state == CANCELING) & ((BW <= l.mode) & (l.mode <= PW))) {
         return refused(11);
     }
     table::put_lock(t, n, i, downgraded(l));

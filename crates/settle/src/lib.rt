@@ -1,5 +1,12 @@
 // Settling the table, in its bytes.
+use common::EOF;
 use common::Number;
+use modes::ASKED;
+use modes::CANCELING;
+use modes::GRANTED;
+use modes::NBW;
+use modes::PR;
+use modes::WAITING;
 use table::Lock;
 ghost use mathlib.Core.Path.{_≡_};
 ghost use mathlib.Core.List.{[], _∷_};
@@ -15,23 +22,6 @@ ghost use Rattle.locks.specs.Conflicts.{against, conflicts, obstacle, hurries};
 ghost use Rattle.locks.specs.Settle.{given, widest, nextNumber, turn, turns, presses, wanted, revoke};
 ghost use Rattle.locks.specs.Events.{eventsSize};
 ghost use Rattle.settle.specs.Posts.{Good, Fair, Past, First, near, passes, cutBy, grantedAs, Took, Due, putEvents, fresh, Did, revokeAt, Wanted, Settles};
-
-// The states of a record.
-const WAITING: u64 = 0;
-
-const GRANTED: u64 = 1;
-
-const ASKED: u64 = 2;
-
-pub const CANCELING: u64 = 3;
-
-// The mode that takes no number, and the one that some modes pass once it is canceling.
-const PR: u64 = 1;
-
-const NBW: u64 = 2;
-
-// The last byte that a range can have.
-pub const EOF: u64 = 9223372036854775807;
 
 // The kinds of an event.
 const GRANT: u64 = 1;
