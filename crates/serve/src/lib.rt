@@ -48,14 +48,14 @@ pub fn refused(k: u64) -> Answer
 }
 
 // Settles the changed table and answers the handle h.
-fn finish(t: &mut [u8], b: &mut [u8], n: usize, h: u64) -> Answer
+fn finish(t: &mut [u8], b: &mut [u8], n: usize, h: Handle) -> Answer
     requires { ⌜ Good n (now t) × (eventsSize width ≤ length (now b)) ⌝ }
-    ensures { λ r. ⌜ Ends n (tableOf width (now (t .entry))) h (now (b .entry)) r (now (t .exit)) (now (b .exit)) ⌝ }
+    ensures { λ r. ⌜ Ends n (tableOf width (now (t .entry))) (h .0) (now (b .entry)) r (now (t .exit)) (now (b .exit)) ⌝ }
 {
     let k = settle::settle(t, b, n);
     Answer {
         refusal: 0,
-        handle: h,
+        handle: h.0,
         events: k as u64,
     }
 }
@@ -112,9 +112,9 @@ fn request(
     if k != 0 {
         return refused(k);
     }
-    let h = table::issued(t) + 1;
+    let h = Handle(table::issued(t) + 1);
     let l = Lock {
-        handle: Handle(h),
+        handle: h,
         client: client,
         stripe: stripe,
         mode: mode,
@@ -123,18 +123,18 @@ fn request(
         first: first,
         last: last,
     };
-    table::put_issued(t, n, h);
+    table::put_issued(t, n, h.0);
     table::add(t, n, l);
     finish(t, b, n + 1, h)
 }
 
 // Finds the place of the record with the handle h.
-fn find(t: &[u8], n: usize, h: u64) -> usize
+fn find(t: &[u8], n: usize, h: Handle) -> usize
     requires { ⌜ Shape n (now t) ⌝ }
-    ensures { λ r. ⌜ First (has h) n (locksOf width (now (t .entry))) r ⌝ }
+    ensures { λ r. ⌜ First (has (h .0)) n (locksOf width (now (t .entry))) r ⌝ }
 {
     for i in 0..n {
-        if settle::handle_at(t, i) == h {
+        if settle::handle_at(t, i).0 == h.0 {
             return i;
         }
     }
@@ -160,9 +160,9 @@ fn place_refusal(t: &[u8], n: usize, i: usize, client: u64) -> u64
 }
 
 // Makes an asked record canceling, and settles.
-fn acknowledge(t: &mut [u8], b: &mut [u8], n: usize, client: u64, handle: u64) -> Answer
+fn acknowledge(t: &mut [u8], b: &mut [u8], n: usize, client: u64, handle: Handle) -> Answer
     requires { ⌜ Good n (now t) × (eventsSize width ≤ length (now b)) ⌝ }
-    ensures { λ r. ⌜ Leaves (serve (tableOf width (now (t .entry))) (Acknowledge client handle)) (now (t .entry)) (now (b .entry)) r (now (t .exit)) (now (b .exit)) ⌝ }
+    ensures { λ r. ⌜ Leaves (serve (tableOf width (now (t .entry))) (Acknowledge client (handle .0))) (now (t .entry)) (now (b .entry)) r (now (t .exit)) (now (b .exit)) ⌝ }
 {
     let i = find(t, n, handle);
     let k = place_refusal(t, n, i, client);
@@ -173,7 +173,7 @@ fn acknowledge(t: &mut [u8], b: &mut [u8], n: usize, client: u64, handle: u64) -
     if l.state != ASKED {
         return refused(11);
     }
-    table::put_lock(t, n, i, settle::given(l, CANCELING, l.number.0, l.last));
+    table::put_lock(t, n, i, settle::given(l, CANCELING, l.number, l.last));
     finish(t, b, n, handle)
 }
 
@@ -196,9 +196,9 @@ fn downgraded(l: Lock) -> Lock
 }
 
 // Makes a canceling BW or PW record an NBW record, and settles.
-fn downgrade(t: &mut [u8], b: &mut [u8], n: usize, client: u64, handle: u64) -> Answer
+fn downgrade(t: &mut [u8], b: &mut [u8], n: usize, client: u64, handle: Handle) -> Answer
     requires { ⌜ Good n (now t) × (eventsSize width ≤ length (now b)) ⌝ }
-    ensures { λ r. ⌜ Leaves (serve (tableOf width (now (t .entry))) (Downgrade client handle)) (now (t .entry)) (now (b .entry)) r (now (t .exit)) (now (b .exit)) ⌝ }
+    ensures { λ r. ⌜ Leaves (serve (tableOf width (now (t .entry))) (Downgrade client (handle .0))) (now (t .entry)) (now (b .entry)) r (now (t .exit)) (now (b .exit)) ⌝ }
 {
     let i = find(t, n, handle);
     let k = place_refusal(t, n, i, client);
@@ -214,9 +214,9 @@ fn downgrade(t: &mut [u8], b: &mut [u8], n: usize, client: u64, handle: u64) -> 
 }
 
 // Removes a record, or withdraws a request, and settles.
-fn release(t: &mut [u8], b: &mut [u8], n: usize, client: u64, handle: u64) -> Answer
+fn release(t: &mut [u8], b: &mut [u8], n: usize, client: u64, handle: Handle) -> Answer
     requires { ⌜ Good n (now t) × (eventsSize width ≤ length (now b)) ⌝ }
-    ensures { λ r. ⌜ Leaves (serve (tableOf width (now (t .entry))) (Release client handle)) (now (t .entry)) (now (b .entry)) r (now (t .exit)) (now (b .exit)) ⌝ }
+    ensures { λ r. ⌜ Leaves (serve (tableOf width (now (t .entry))) (Release client (handle .0))) (now (t .entry)) (now (b .entry)) r (now (t .exit)) (now (b .exit)) ⌝ }
 {
     let i = find(t, n, handle);
     let k = place_refusal(t, n, i, client);
@@ -241,8 +241,8 @@ pub fn serve(t: &mut [u8], b: &mut [u8], m: Message) -> Answer
             first,
             last,
         } => request(t, b, n, client, stripe, mode, first, last),
-        Message::Acknowledge { client, handle } => acknowledge(t, b, n, client, handle),
-        Message::Downgrade { client, handle } => downgrade(t, b, n, client, handle),
-        Message::Release { client, handle } => release(t, b, n, client, handle),
+        Message::Acknowledge { client, handle } => acknowledge(t, b, n, client, Handle(handle)),
+        Message::Downgrade { client, handle } => downgrade(t, b, n, client, Handle(handle)),
+        Message::Release { client, handle } => release(t, b, n, client, Handle(handle)),
     }
 }

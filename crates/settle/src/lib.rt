@@ -1,5 +1,6 @@
 // Settling the table, in its bytes.
 use common::EOF;
+use common::Handle;
 use common::Number;
 use modes::ASKED;
 use modes::CANCELING;
@@ -34,11 +35,11 @@ const EVENTS: usize = 4;
 const EVENT_BYTES: usize = 44;
 
 // Reads the handle of the record at place i.
-pub fn handle_at(t: &[u8], i: usize) -> u64
+pub fn handle_at(t: &[u8], i: usize) -> Handle
     requires { ⌜ (length (now t) ≡ tableSize width) × (i < 256) ⌝ }
-    ensures { λ r. ⌜ r ≡ handleOf (lockAt (now (t .entry)) i) ⌝ }
+    ensures { λ r. ⌜ r .0 ≡ handleOf (lockAt (now (t .entry)) i) ⌝ }
 {
-    xdr::u32_at(t, table::RECORDS + table::RECORD_BYTES * i)
+    Handle(xdr::u32_at(t, table::RECORDS + table::RECORD_BYTES * i))
 }
 
 // Reads the stripe of the record at place i.
@@ -98,7 +99,7 @@ fn meets(t: &[u8], n: usize, i: usize, j: usize, l: u64) -> bool
     if !near(t, i, j, l) {
         return false;
     }
-    (handle_at(t, i) != handle_at(t, j))
+    (handle_at(t, i).0 != handle_at(t, j).0)
         & modes::conflict(mode_at(t, n, i), mode_at(t, n, j), state_at(t, j))
 }
 
@@ -129,7 +130,7 @@ fn hinders(t: &[u8], n: usize, i: usize, j: usize) -> bool
     requires { ⌜ Fair n (now t) × (i < n) × (j < n) ⌝ }
     ensures { λ b. ⌜ b ≡ obstacle (lockAt (now (t .entry)) i) (lockAt (now (t .entry)) j) ⌝ }
 {
-    if !((state_at(t, j) != WAITING) | (handle_at(t, j) < handle_at(t, i))) {
+    if !((state_at(t, j) != WAITING) | (handle_at(t, j).0 < handle_at(t, i).0)) {
         return false;
     }
     if passes(t, n, i, j) {
@@ -143,7 +144,7 @@ fn hurrying(t: &[u8], n: usize, i: usize, j: usize) -> bool
     requires { ⌜ Fair n (now t) × (i < n) × (j < n) ⌝ }
     ensures { λ b. ⌜ b ≡ hurries (lockAt (now (t .entry)) i) (lockAt (now (t .entry)) j) ⌝ }
 {
-    if !((state_at(t, j) == WAITING) & (handle_at(t, i) < handle_at(t, j))) {
+    if !((state_at(t, j) == WAITING) & (handle_at(t, i).0 < handle_at(t, j).0)) {
         return false;
     }
     conflicts(t, n, i, j)
@@ -221,8 +222,8 @@ fn reach(t: &[u8], n: usize, i: usize) -> u64
 }
 
 // Makes of w the record with this state, number and last byte.
-pub fn given(w: Lock, state: u64, number: u64, last: u64) -> Lock
-    ensures { λ r. ⌜ r ≡ given w state number last ⌝ }
+pub fn given(w: Lock, state: u64, number: Number, last: u64) -> Lock
+    ensures { λ r. ⌜ r ≡ given w state (number .0) last ⌝ }
 {
     let h = w.handle;
     Lock {
@@ -231,16 +232,16 @@ pub fn given(w: Lock, state: u64, number: u64, last: u64) -> Lock
         stripe: w.stripe,
         mode: w.mode,
         state: state,
-        number: Number(number),
+        number: number,
         first: w.first,
         last: last,
     }
 }
 
 // Makes of w, the record at place i, what it is granted as, with the number v.
-fn granted(t: &[u8], n: usize, i: usize, w: Lock, v: u64) -> Lock
+fn granted(t: &[u8], n: usize, i: usize, w: Lock, v: Number) -> Lock
     requires { ⌜ Fair n (now t) × (i < n) × (w ≡ lockAt (now t) i) × Past (hurries (lockAt (now t) i)) n (locksOf width (now t)) i ⌝ }
-    ensures { λ r. ⌜ r ≡ grantedAs (locksOf width (now (t .entry))) w v ⌝ }
+    ensures { λ r. ⌜ r ≡ grantedAs (locksOf width (now (t .entry))) w (v .0) ⌝ }
 {
     if hurried(t, n, i) {
         return given(w, CANCELING, v, w.last);
@@ -249,15 +250,15 @@ fn granted(t: &[u8], n: usize, i: usize, w: Lock, v: u64) -> Lock
 }
 
 // Takes the number for w's grant: 0 for PR, else its stripe's next, which becomes its last.
-fn take_number(t: &mut [u8], n: usize, w: Lock) -> u64
+fn take_number(t: &mut [u8], n: usize, w: Lock) -> Number
     requires { ⌜ Shape n (now t) × (w .stripe < 16) × (nextNumber (tableOf width (now t) .lasts) w < 2 ^ 32) ⌝ }
-    ensures { λ r. ⌜ Took n w (tableOf width (now (t .entry))) r (now (t .exit)) ⌝ }
+    ensures { λ r. ⌜ Took n w (tableOf width (now (t .entry))) (r .0) (now (t .exit)) ⌝ }
 {
     if w.mode == PR {
-        return 0;
+        return Number(0);
     }
     let s = w.stripe as usize;
-    let v = table::last_of(t, s) + 1;
+    let v = Number(table::last_of(t, s).0 + 1);
     table::put_last(t, n, s, v);
     v
 }
@@ -349,7 +350,7 @@ fn ask(t: &mut [u8], b: &mut [u8], n: usize, i: usize, r: Lock, k: usize)
     requires { ⌜ Wanted n i r (now t) × (k < 256) × (eventsSize width ≤ length (now b)) ⌝ }
     ensures { λ _. ⌜ Did n k (revokeAt i (tableOf width (now (t .entry)))) (now (b .entry)) (k + 1) (now (t .exit)) (now (b .exit)) ⌝ }
 {
-    let q = given(r, ASKED, r.number.0, r.last);
+    let q = given(r, ASKED, r.number, r.last);
     table::put_lock(t, n, i, q);
     put_event(b, k, REVOCATION, q);
 }

@@ -1,5 +1,8 @@
 // Says whether a lock table's bytes are sound, by every rule of document 01.
 use common::EOF;
+use common::HIGHEST;
+use common::Handle;
+use common::Number;
 use modes::BW;
 use modes::CANCELING;
 use modes::NBW;
@@ -22,7 +25,7 @@ ghost use Rattle.table.specs.Places.{lockAt};
 ghost use Rattle.sound.specs.Parts.{Sized, Counted, Beside, eachSound, friendly, owned, smallerYields};
 
 // A number that no record has.
-const NO_NUMBER: u64 = common::HIGHEST + 1;
+const NO_NUMBER: Number = Number(HIGHEST + 1);
 
 // Says whether a record's number is one that it may have.
 fn is_numbered(t: &[u8], l: Lock) -> bool
@@ -38,7 +41,7 @@ fn is_numbered(t: &[u8], l: Lock) -> bool
         return false;
     }
     let last = table::last_of(t, l.stripe as usize);
-    (1 <= number) & (number <= last)
+    (1 <= number) & (number <= last.0)
 }
 
 // Says whether a record is valid by itself.
@@ -74,7 +77,7 @@ fn rooms(t: &[u8], n: usize, issued: u64, waiters: &[u64]) -> bool
 {
     let mut ok = true;
     for s in 0..STRIPES {
-        ok = ok & (table::last_of(t, s) + waiters[s] <= issued);
+        ok = ok & (table::last_of(t, s).0 + waiters[s] <= issued);
     }
     ok
 }
@@ -85,16 +88,16 @@ fn each_sound(t: &[u8], n: usize, issued: u64) -> bool
     ensures { λ r. ⌜ r ≡ eachSound issued (tableOf width (now (t .entry))) ⌝ }
 {
     let mut waiters = [0u64; STRIPES];
-    let mut before: u64 = 0;
+    let mut before = Handle(0);
     for i in 0..n {
         let l = table::lock_at(t, i);
-        if l.handle.0 <= before {
+        if l.handle.0 <= before.0 {
             return false;
         }
         if !is_valid(t, issued, l) {
             return false;
         }
-        before = l.handle.0;
+        before = l.handle;
         let s = l.stripe as usize;
         waiters[s] = waiters[s] + one((l.state == WAITING) & (l.mode != PR));
     }
@@ -102,40 +105,40 @@ fn each_sound(t: &[u8], n: usize, issued: u64) -> bool
 }
 
 // Says whether, of a and a lock of this number, mode and state, the one with the smaller number makes way.
-fn smaller_yields(a: Lock, number: u64, mode: u64, state: u64) -> bool
-    ensures { λ r. ⌜ r ≡ smallerYields a number mode state ⌝ }
+fn smaller_yields(a: Lock, number: Number, mode: u64, state: u64) -> bool
+    ensures { λ r. ⌜ r ≡ smallerYields a (number .0) mode state ⌝ }
 {
-    if a.number.0 < number {
+    if a.number.0 < number.0 {
         return ((a.mode == NBW) & (a.state == CANCELING)) & ((NBW <= mode) & (mode <= BW));
     }
     ((mode == NBW) & (state == CANCELING)) & ((NBW <= a.mode) & (a.mode <= BW))
 }
 
 // The number that no other held write lock of a's stripe may have: none for a PR lock.
-fn own_number(a: Lock) -> u64
-    ensures { λ r. ⌜ r ≡ owned a ⌝ }
+fn own_number(a: Lock) -> Number
+    ensures { λ r. ⌜ r .0 ≡ owned a ⌝ }
 {
     if a.mode == PR {
         return NO_NUMBER;
     }
-    a.number.0
+    a.number
 }
 
 // Says whether the record at place j, of a's stripe, has another number than the held record a, if both are held write locks.
-fn differs_at(t: &[u8], a: Lock, own: u64, j: usize) -> bool
-    requires { ⌜ Beside a own j (now t) × (lockAt (now t) j .stripe ≡ a .stripe) ⌝ }
+fn differs_at(t: &[u8], a: Lock, own: Number, j: usize) -> bool
+    requires { ⌜ Beside a (own .0) j (now t) × (lockAt (now t) j .stripe ≡ a .stripe) ⌝ }
     ensures { λ r. ⌜ r ≡ differ a (lockAt (now (t .entry)) j) ⌝ }
 {
     let at = table::RECORDS + table::RECORD_BYTES * j;
-    if xdr::u32_at(t, at + table::NUMBER) != own {
+    if xdr::u32_at(t, at + table::NUMBER) != own.0 {
         return true;
     }
     (xdr::u32_at(t, at + table::STATE) == WAITING) | (xdr::u32_at(t, at + table::MODE) == PR)
 }
 
 // Says whether the held record a and the one at place j may both be there. It reads stripe and range before anything else.
-fn friends_at(t: &[u8], a: Lock, own: u64, j: usize) -> bool
-    requires { ⌜ Beside a own j (now t) ⌝ }
+fn friends_at(t: &[u8], a: Lock, own: Number, j: usize) -> bool
+    requires { ⌜ Beside a (own .0) j (now t) ⌝ }
     ensures { λ r. ⌜ r ≡ friendly a (lockAt (now (t .entry)) j) ⌝ }
 {
     let at = table::RECORDS + table::RECORD_BYTES * j;
@@ -156,8 +159,8 @@ fn friends_at(t: &[u8], a: Lock, own: u64, j: usize) -> bool
     if state == WAITING {
         return true;
     }
-    let number = xdr::u32_at(t, at + table::NUMBER);
-    if number == a.number.0 {
+    let number = Number(xdr::u32_at(t, at + table::NUMBER));
+    if number.0 == a.number.0 {
         return false;
     }
     smaller_yields(a, number, mode, state)

@@ -120,19 +120,19 @@ pub fn put_issued(t: &mut [u8], n: usize, v: u64)
 }
 
 // Reads the last number of stripe s.
-pub fn last_of(t: &[u8], s: usize) -> u64
+pub fn last_of(t: &[u8], s: usize) -> Number
     requires { ⌜ (length (now t) ≡ tableSize width) × (s < 16) ⌝ }
-    ensures { λ r. ⌜ (r ≡ lastOf (tableOf width (now (t .entry))) s) × (r < 2 ^ 32) ⌝ }
+    ensures { λ r. ⌜ (r .0 ≡ lastOf (tableOf width (now (t .entry))) s) × (r .0 < 2 ^ 32) ⌝ }
 {
-    xdr::u32_at(t, LASTS + LAST_BYTES * s)
+    Number(xdr::u32_at(t, LASTS + LAST_BYTES * s))
 }
 
 // Stores the last number of stripe s.
-pub fn put_last(t: &mut [u8], n: usize, s: usize, v: u64)
-    requires { ⌜ Shape n (now t) × (s < 16) × (v < 2 ^ 32) ⌝ }
-    ensures { λ _. ⌜ Holds n (withLast (tableOf width (now (t .entry))) s v) (now (t .exit)) ⌝ }
+pub fn put_last(t: &mut [u8], n: usize, s: usize, v: Number)
+    requires { ⌜ Shape n (now t) × (s < 16) × (v .0 < 2 ^ 32) ⌝ }
+    ensures { λ _. ⌜ Holds n (withLast (tableOf width (now (t .entry))) s (v .0)) (now (t .exit)) ⌝ }
 {
-    xdr::put_u32(t, LASTS + LAST_BYTES * s, v);
+    xdr::put_u32(t, LASTS + LAST_BYTES * s, v.0);
 }
 
 // Adds the record after the n.

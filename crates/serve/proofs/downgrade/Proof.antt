@@ -9,7 +9,7 @@ use Rattle.serve.proofs.downgrade.Tie as tie
 refused : tie.Need-returns
 refused c =
     let a = c .before .before .before .before .before .before .before .before .args in
-    naming-refused _ _ (a .client) (a .handle) _ _ (c .before .before .before .before .before .before .before .before .pre .0) (c .before .before .before .before .find .ensures) (c .before .before .place-refusal .ensures) (Downgrade (a .client) (a .handle)) _ (downs (a .client) (a .handle)) _ _ (c .before .if1 .taken) (c .refused .ensures)
+    naming-refused _ _ (a .client) (a .handle .0) _ _ (c .before .before .before .before .before .before .before .before .pre .0) (c .before .before .before .before .find .ensures) (c .before .before .place-refusal .ensures) (Downgrade (a .client) (a .handle .0)) _ (downs (a .client) (a .handle .0)) _ _ (c .before .if1 .taken) (c .refused .ensures)
 
 lock-at-requires : tie.Need-lock-at-requires
 lock-at-requires c κs =
@@ -18,7 +18,7 @@ lock-at-requires c κs =
     let F = c .before .before .before .before .find .ensures in
     let p = c .before .before .place-refusal .ensures in
     let z = c .before .if1 .left in
-    let h = is-there _ _ (a .client) (a .handle) _ _ (s .pre .0) F p z in
+    let h = is-there _ _ (a .client) (a .handle .0) _ _ (s .pre .0) F p z in
     (search needs, omega arith)
 
 refused-11 : tie.Need-returns-2
@@ -29,7 +29,7 @@ refused-11 c =
     let p = c .before .before .before .before .before .before .before .before .place-refusal .ensures in
     let z = c .before .before .before .before .before .before .before .if1 .left in
     let L = c .before .before .before .before .before .lock-at in
-    naming-11 _ _ (a .client) (a .handle) _ _ (s .pre .0) F p z _ (L .ensures .0) (Downgrade (a .client) (a .handle)) _ (downs (a .client) (a .handle)) _ _ (down-not (a .client) (a .handle) (L .result) (c .before .if2 .taken)) (c .refused2 .ensures)
+    naming-11 _ _ (a .client) (a .handle .0) _ _ (s .pre .0) F p z _ (L .ensures .0) (Downgrade (a .client) (a .handle .0)) _ (downs (a .client) (a .handle .0)) _ _ (down-not (a .client) (a .handle .0) (L .result) (c .before .if2 .taken)) (c .refused2 .ensures)
 
 put-lock-requires : tie.Need-put-lock-requires
 put-lock-requires c κs =
@@ -38,7 +38,7 @@ put-lock-requires c κs =
     let F = c .before .before .before .before .before .before .before .before .before .before .before .find .ensures in
     let p = c .before .before .before .before .before .before .before .before .before .place-refusal .ensures in
     let z = c .before .before .before .before .before .before .before .before .if1 .left in
-    (search needs, is-there _ _ (a .client) (a .handle) _ _ (s .pre .0) F p z, down-fits _ _ (c .downgraded .ensures) (c .before .before .before .before .before .before .lock-at .ensures .1))
+    (search needs, is-there _ _ (a .client) (a .handle .0) _ _ (s .pre .0) F p z, down-fits _ _ (c .downgraded .ensures) (c .before .before .before .before .before .before .lock-at .ensures .1))
 
 finish-requires : tie.Need-finish-requires
 finish-requires c κs =
@@ -49,7 +49,7 @@ finish-requires c κs =
     let z = c .before .before .before .before .before .before .before .before .before .before .before .before .before .if1 .left in
     let L = c .before .before .before .before .before .before .before .before .before .before .before .lock-at in
     let e = L .ensures .0 in
-    (made-good _ _ (a .client) (a .handle) _ _ (s .pre .0) F p z _ e (Downgrade (a .client) (a .handle)) _ (downs (a .client) (a .handle)) _ (down-makes (a .client) (a .handle)) (down-may (a .client) (a .handle) (L .result) (own _ _ (a .client) (a .handle) _ _ (s .pre .0) F p z _ e) (c .before .before .before .before .before .before .before .if2 .left)) _ (c .before .before .before .before .before .downgraded .ensures) _ (c .before .before .before .before .put-lock .ensures), search needs)
+    (made-good _ _ (a .client) (a .handle .0) _ _ (s .pre .0) F p z _ e (Downgrade (a .client) (a .handle .0)) _ (downs (a .client) (a .handle .0)) _ (down-makes (a .client) (a .handle .0)) (down-may (a .client) (a .handle .0) (L .result) (own _ _ (a .client) (a .handle .0) _ _ (s .pre .0) F p z _ e) (c .before .before .before .before .before .before .before .if2 .left)) _ (c .before .before .before .before .before .downgraded .ensures) _ (c .before .before .before .before .put-lock .ensures), search needs)
 
 returns : tie.Need-returns-3
 returns c =
@@ -60,7 +60,7 @@ returns c =
     let z = c .before .before .before .before .before .before .before .before .before .before .before .before .before .before .before .before .before .before .if1 .left in
     let L = c .before .before .before .before .before .before .before .before .before .before .before .before .before .before .before .before .lock-at in
     let e = L .ensures .0 in
-    made-served _ _ (a .client) (a .handle) _ _ (s .pre .0) F p z _ e (Downgrade (a .client) (a .handle)) _ (downs (a .client) (a .handle)) _ (down-makes (a .client) (a .handle)) (down-may (a .client) (a .handle) (L .result) (own _ _ (a .client) (a .handle) _ _ (s .pre .0) F p z _ e) (c .before .before .before .before .before .before .before .before .before .before .before .before .if2 .left)) _ (c .before .before .before .before .before .before .before .before .before .before .downgraded .ensures) _ (c .before .before .before .before .before .before .before .before .before .put-lock .ensures) _ _ _ _ (c .before .before .before .before .finish .ensures)
+    made-served _ _ (a .client) (a .handle .0) _ _ (s .pre .0) F p z _ e (Downgrade (a .client) (a .handle .0)) _ (downs (a .client) (a .handle .0)) _ (down-makes (a .client) (a .handle .0)) (down-may (a .client) (a .handle .0) (L .result) (own _ _ (a .client) (a .handle .0) _ _ (s .pre .0) F p z _ e) (c .before .before .before .before .before .before .before .before .before .before .before .before .if2 .left)) _ (c .before .before .before .before .before .before .before .before .before .before .downgraded .ensures) _ (c .before .before .before .before .before .before .before .before .before .put-lock .ensures) _ _ _ _ (c .before .before .before .before .finish .ensures)
 
 pub downgrade-spec : {M : Type 1} → statement M
 downgrade-spec =

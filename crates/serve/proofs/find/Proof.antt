@@ -11,7 +11,7 @@ use Rattle.serve.proofs.find.Statement.{statement}
 use Rattle.serve.proofs.find.Tie as tie
 
 abbrev Inv-loop : tie.InvT-loop
-Inv-loop t n h i₀ i = Past (has h) n (locksOf width t) i
+Inv-loop t n h i₀ i = Past (has (h .0)) n (locksOf width t) i
 
 abbrev μ-loop : tie.MeasureT-loop
 μ-loop t n h i₀ i = n - i

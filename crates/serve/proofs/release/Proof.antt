@@ -9,7 +9,7 @@ use Rattle.serve.proofs.release.Tie as tie
 refused : tie.Need-returns
 refused c =
     let a = c .before .before .before .before .before .before .before .before .args in
-    naming-refused _ _ (a .client) (a .handle) _ _ (c .before .before .before .before .before .before .before .before .pre .0) (c .before .before .before .before .find .ensures) (c .before .before .place-refusal .ensures) (Release (a .client) (a .handle)) _ (releases (a .client) (a .handle)) _ _ (c .before .if1 .taken) (c .refused .ensures)
+    naming-refused _ _ (a .client) (a .handle .0) _ _ (c .before .before .before .before .before .before .before .before .pre .0) (c .before .before .before .before .find .ensures) (c .before .before .place-refusal .ensures) (Release (a .client) (a .handle .0)) _ (releases (a .client) (a .handle .0)) _ _ (c .before .if1 .taken) (c .refused .ensures)
 
 remove-requires : tie.Need-remove-requires
 remove-requires c κs =
@@ -18,7 +18,7 @@ remove-requires c κs =
     let F = c .before .before .before .before .find .ensures in
     let p = c .before .before .place-refusal .ensures in
     let z = c .before .if1 .left in
-    (search needs, is-there _ _ (a .client) (a .handle) _ _ (s .pre .0) F p z)
+    (search needs, is-there _ _ (a .client) (a .handle .0) _ _ (s .pre .0) F p z)
 
 sub-finish : tie.Need-sub-finish
 sub-finish c =
@@ -27,7 +27,7 @@ sub-finish c =
     let F = c .before .before .before .before .before .before .before .before .before .find .ensures in
     let p = c .before .before .before .before .before .before .before .place-refusal .ensures in
     let z = c .before .before .before .before .before .before .if1 .left in
-    let h = is-there _ _ (a .client) (a .handle) _ _ (s .pre .0) F p z in
+    let h = is-there _ _ (a .client) (a .handle .0) _ _ (s .pre .0) F p z in
     omega arith
 
 finish-requires : tie.Need-finish-requires
@@ -37,7 +37,7 @@ finish-requires c κs =
     let F = c .before .before .before .before .before .before .before .before .before .find .ensures in
     let p = c .before .before .before .before .before .before .before .place-refusal .ensures in
     let z = c .before .before .before .before .before .before .if1 .left in
-    (gone-good _ _ (a .client) (a .handle) _ _ (s .pre .0) F p z _ (c .before .before .before .before .remove .ensures), search needs)
+    (gone-good _ _ (a .client) (a .handle .0) _ _ (s .pre .0) F p z _ (c .before .before .before .before .remove .ensures), search needs)
 
 returns : tie.Need-returns-2
 returns c =
@@ -46,7 +46,7 @@ returns c =
     let F = c .before .before .before .before .before .before .before .before .before .before .before .before .before .before .find .ensures in
     let p = c .before .before .before .before .before .before .before .before .before .before .before .before .place-refusal .ensures in
     let z = c .before .before .before .before .before .before .before .before .before .before .before .if1 .left in
-    gone-served _ _ (a .client) (a .handle) _ _ (s .pre .0) F p z _ (c .before .before .before .before .before .before .before .before .before .remove .ensures) _ _ _ _ (c .before .before .before .before .finish .ensures)
+    gone-served _ _ (a .client) (a .handle .0) _ _ (s .pre .0) F p z _ (c .before .before .before .before .before .before .before .before .before .remove .ensures) _ _ _ _ (c .before .before .before .before .finish .ensures)
 
 pub release-spec : {M : Type 1} → statement M
 release-spec =

@@ -8,8 +8,8 @@ use Rattle.settle.proofs.meets.Tie as tie
 
 returns : tie.Need-returns-2
 returns c =
-    let a = c .before .before .before .before .before .before .before .before .before .args in
-    close (lockAt (now (a .t)) (a .i)) (lockAt (now (a .t)) (a .j)) _ _ (c .before .before .before .before .before .before .before .near .ensures) _ _ _ _ _ _ (c .before .before .before .before .before .handle-at .ensures) (c .before .before .before .before .handle-at2 .ensures) (c .before .before .before .mode-at .ensures .0) (c .before .before .mode-at2 .ensures .0) (c .before .state-at .ensures) (c .conflict .ensures) (c .before .before .before .before .before .before .if1 .left)
+    let a = c .before .before .before .before .before .before .before .before .before .before .before .args in
+    close (lockAt (now (a .t)) (a .i)) (lockAt (now (a .t)) (a .j)) _ _ (c .before .before .before .before .before .before .before .before .before .near .ensures) _ _ _ _ _ _ (c .before .before .before .before .before .before .before .handle-at .ensures) (c .before .before .before .before .before .before .handle-at2 .ensures) (c .before .before .before .mode-at .ensures .0) (c .before .before .mode-at2 .ensures .0) (c .before .state-at .ensures) (c .conflict .ensures) (c .before .before .before .before .before .before .before .before .if1 .left)
 
 pub meets-spec : {M : Type 1} → statement M
 meets-spec = tie.close (tie.spec (λ c κs. search needs) (λ c. search far) (λ c κs. search needs) (λ c κs. search needs) (λ c κs. search needs) (λ c κs. search needs) (λ c κs. search needs) (λ c κs. search needs) returns)

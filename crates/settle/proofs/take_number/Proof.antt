@@ -10,8 +10,8 @@ use Rattle.settle.proofs.take_number.Tie as tie
 
 put-last-requires : tie.Need-put-last-requires
 put-last-requires c κs =
-    let s = c .before .before .before .before .before .before in
-    let e = next-is (tableOf width (now (s .args .t)) .lasts) (s .args .w) (c .before .before .before .if1 .left) in
+    let s = c .before .before .before .before .before .before .before in
+    let e = next-is (tableOf width (now (s .args .t)) .lasts) (s .args .w) (c .before .before .before .before .if1 .left) in
     (s .pre .0, omega arith, omega arith)
 
 pub take-number-spec : {M : Type 1} → statement M

@@ -20,7 +20,7 @@ use Rattle.sound.proofs.each_sound.Tie as tie
 abbrev Inv-loop : tie.InvT-loop
 Inv-loop t n issued waiters₀ before₀ i₀ waiters before i =
     (i ≤ n)
-    × ((all (valid issued (tableOf width t .lasts)) (drop i (locksOf width t)) && climbs before (drop i (locksOf width t))) ≡ (all (valid issued (tableOf width t .lasts)) (locksOf width t) && climbs 0 (locksOf width t)))
+    × ((all (valid issued (tableOf width t .lasts)) (drop i (locksOf width t)) && climbs (before .0) (drop i (locksOf width t))) ≡ (all (valid issued (tableOf width t .lasts)) (locksOf width t) && climbs 0 (locksOf width t)))
     × Counted i waiters (locksOf width t)
 
 abbrev μ-loop : tie.MeasureT-loop
@@ -31,41 +31,43 @@ loop-holds c = (search needs, refl, none-yet _)
 
 returns : tie.Need-returns Inv-loop μ-loop
 returns c =
-    let l = c .before .before .before .before in
+    let l = c .before .before .before .before .before in
     let s = l .before .before in
-    let a = c .before .before .lock-at in
+    let a = c .before .before .before .lock-at in
     each-low _ _ _ _ (a .result) (records-from (s .args .n) (l .loop .i) (now (s .args .t)) (s .pre) (a .result) (omega arith) (a .ensures .0)) (l .loop .inv .1) (c .if1 .taken)
 
 returns-2 : tie.Need-returns-2 Inv-loop μ-loop
 returns-2 c =
-    let l = c .before .before .before .before .before .before in
+    let l = c .before .before .before .before .before .before .before in
     let s = l .before .before in
-    let a = c .before .before .before .before .lock-at in
+    let a = c .before .before .before .before .before .lock-at in
     each-bad _ _ _ _ (a .result) (records-from (s .args .n) (l .loop .i) (now (s .args .t)) (s .pre) (a .result) (omega arith) (a .ensures .0)) (l .loop .inv .1)
     (sym (c .before .is-valid .ensures) ∙ not-true _ (c .if2 .taken))
 
 array-read-waiters : tie.Need-array-read-waiters Inv-loop μ-loop
-array-read-waiters c = has-count _ _ _ (sym (c .before .is-valid .ensures) ∙ not-false _ (c .if2 .left))
+array-read-waiters c = has-count _ _ _ (sym (c .before .before .is-valid .ensures) ∙ not-false _ (c .before .if2 .left))
 
 add-waiters : tie.Need-add-waiters Inv-loop μ-loop
 add-waiters c =
-    let l = c .before .before .before .before .before .before .before .before .before in
+    let l = c .before .before .before .before .before .before .before .before .before .before .before in
     let m = l .before .before .pre .most in
-    let f = l .loop .inv .2 .few (c .before .before .before .before .before .before .before .lock-at .result .stripe) (has-count _ _ _ (sym (c .before .before .before .before .is-valid .ensures) ∙ not-false _ (c .before .before .before .if2 .left))) in
+    let f = l .loop .inv .2 .few (c .before .before .before .before .before .before .before .before .before .lock-at .result .stripe) (has-count _ _ _ (sym (c .before .before .before .before .before .is-valid .ensures) ∙ not-false _ (c .before .before .before .before .if2 .left))) in
     omega arith
 
 array-write-waiters : tie.Need-array-write-waiters Inv-loop μ-loop
-array-write-waiters c = has-count _ _ _ (sym (c .before .before .before .before .is-valid .ensures) ∙ not-false _ (c .before .before .before .if2 .left))
+array-write-waiters c = has-count _ _ _ (sym (c .before .before .before .before .before .is-valid .ensures) ∙ not-false _ (c .before .before .before .before .if2 .left))
 
 loop-again : tie.Need-loop-again Inv-loop μ-loop
 loop-again c =
-    let l = c .before .before .before .before .before .before .before .before .before in
+    let b = c .before .before .before .before .before .before .before .before .before .before in
+    let l = b .before in
     let s = l .before .before in
-    let a = c .before .before .before .before .before .before .before .lock-at in
+    let h = b .loop-test .taken in
+    let a = c .before .before .before .before .before .before .before .before .before .lock-at in
     let f = records-from (s .args .n) (l .loop .i) (now (s .args .t)) (s .pre) (a .result) (omega arith) (a .ensures .0) in
-    let v = sym (c .before .before .before .before .is-valid .ensures) ∙ not-false _ (c .before .before .before .if2 .left) in (
+    let v = sym (c .before .before .before .before .before .is-valid .ensures) ∙ not-false _ (c .before .before .before .before .if2 .left) in (
       omega arith,
-      each-more _ _ true _ (a .result) f (l .loop .inv .1) (c .before .before .before .before .before .if1 .left) v,
+      each-more _ _ true _ (a .result) f (l .loop .inv .1) (c .before .before .before .before .before .before .if1 .left) v,
       one-more _ _ (a .result) _ (l .loop .i) (l .loop .inv .2) f (has-count _ _ _ v) (c .one .ensures .0) (c .one .ensures .1),
     )
 

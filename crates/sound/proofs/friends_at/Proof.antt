@@ -40,27 +40,27 @@ returns-5 c = second-waits _ _ _ (c .before .u32-at3 .ensures .0) (c .if5 .taken
 returns-6 : tie.Need-returns-6
 unfolding lockAt fields
 returns-6 c =
-    let c5 = c .before .before .before in
+    let c5 = c .before .before .before .before in
     let c4 = c5 .before .before in
     let c3 = c4 .before .before .before in
     let c2 = c3 .before .before .before in
     let c1 = c2 .before .before .before in
     one-number _ _ _ (c1 .before .before .u32-at .ensures .0) (c1 .if1 .left) (c1 .before .before .before .before .pre .held) _ _ _ _ _
-    (c4 .before .before .u32-at2 .ensures .0) (c .before .before .u32-at4 .ensures .0) (c5 .before .u32-at3 .ensures .0) (c2 .before .before .u64-at .ensures .0) (c3 .before .before .u64-at2 .ensures .0)
+    (c4 .before .before .u32-at2 .ensures .0) (c .before .before .before .u32-at4 .ensures .0) (c5 .before .u32-at3 .ensures .0) (c2 .before .before .u64-at .ensures .0) (c3 .before .before .u64-at2 .ensures .0)
     (c2 .if2 .left) (c3 .if3 .left) (c4 .if4 .left) (c5 .if5 .left) (c .if6 .taken)
 
 returns-7 : tie.Need-returns-7
 unfolding lockAt fields
 returns-7 c =
     let c6 = c .before in
-    let c5 = c6 .before .before .before in
+    let c5 = c6 .before .before .before .before in
     let c4 = c5 .before .before in
     let c3 = c4 .before .before .before in
     let c2 = c3 .before .before .before in
     let c1 = c2 .before .before .before in
     c .smaller-yields .ensures
     ∙ one-of-two _ _ _ (c1 .before .before .u32-at .ensures .0) (c1 .if1 .left) (c1 .before .before .before .before .pre .held) _ _ _ _ _
-    (c4 .before .before .u32-at2 .ensures .0) (c6 .before .before .u32-at4 .ensures .0) (c5 .before .u32-at3 .ensures .0) (c2 .before .before .u64-at .ensures .0) (c3 .before .before .u64-at2 .ensures .0)
+    (c4 .before .before .u32-at2 .ensures .0) (c6 .before .before .before .u32-at4 .ensures .0) (c5 .before .u32-at3 .ensures .0) (c2 .before .before .u64-at .ensures .0) (c3 .before .before .u64-at2 .ensures .0)
     (c2 .if2 .left) (c3 .if3 .left) (c4 .if4 .left) (c5 .if5 .left) (c6 .if6 .left)
 
 pub friends-at-spec : {M : Type 1} → statement M

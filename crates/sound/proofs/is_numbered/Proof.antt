@@ -18,8 +18,8 @@ returns-2 c =
 
 returns-3 : tie.Need-returns-3
 returns-3 c =
-    let s = c .before .before .before .before .before .before .before in
-    is-counted (tableOf width (now (s .args .t)) .lasts) (s .args .l) _ (c .before .before .before .if1 .left) (c .last-of .ensures .0)
+    let s = c .before .before .before .before .before .before .before .before in
+    is-counted (tableOf width (now (s .args .t)) .lasts) (s .args .l) _ (c .before .before .before .before .if1 .left) (c .before .last-of .ensures .0)
 
 pub is-numbered-spec : {M : Type 1} → statement M
 is-numbered-spec =

@@ -29,7 +29,7 @@ shared-slice-read-ok c = let l = c .before .before .before .before .before .befo
 
 add-ok : tie.Need-add-ok Inv-loop μ-loop
 add-ok c =
-    let l = c .before .before .before in
+    let l = c .before .before .before .before in
     let s = l .before .before .before in
     let f = s .pre .1 .few (l .loop .s) (omega arith) in
     let m = s .pre .0 .most in
@@ -38,13 +38,13 @@ add-ok c =
 loop-again : tie.Need-loop-again Inv-loop μ-loop
 unfolding room
 loop-again c =
-    let l = c .before .before .before in
+    let l = c .before .before .before .before in
     let s = l .before .before .before in
     let t = now (s .args .t) in
     let X = tableOf width t in (
       omega arith,
       all-more (room (s .args .issued) (X .lasts) (X .locks)) _ (l .loop .ok) (l .loop .s) _ (stripes-from (l .loop .s) (omega arith))
-          (rw (c .before .last-of .ensures .0, counted (s .args .n) (now (s .args .waiters)) (X .locks) (s .pre .1) (records-end (s .args .n) (s .args .n) t (s .pre .0) (omega arith)) (l .loop .s) (omega arith)))
+          (rw (c .before .before .last-of .ensures .0, counted (s .args .n) (now (s .args .waiters)) (X .locks) (s .pre .1) (records-end (s .args .n) (s .args .n) t (s .pre .0) (omega arith)) (l .loop .s) (omega arith)))
           (l .loop .inv .1),
     )
 
