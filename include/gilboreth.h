@@ -45,7 +45,7 @@ extern "C" {
  *
  * What no call ever does: it allocates nothing, blocks on nothing, reads and writes no file, keeps no
  * pointer and no state between calls, and touches no byte outside the lent buffers. It always returns.
- * It needs memcpy and memset, and less than 64 KB of stack.
+ * It needs memcpy, memmove and memset, and less than 64 KB of stack.
  *
  * A refused call changes no byte of any buffer.
  */

@@ -28,7 +28,8 @@ fn copy_bytes(part: &mut [u8], piece: &[u8])
     }
 }
 
-// Copies the piece into the part, a long one block by block. A block goes through an array, which overlaps neither: so the compiler knows that it may move the block as a whole, and it leaves the array out.
+// Copies the piece into the part, a long one block by block. A block goes through an array, which overlaps neither:
+// so the compiler knows that it may move the block as a whole, and it leaves the array out.
 fn copy(part: &mut [u8], piece: &[u8])
     requires { ⌜ length (now part) ≡ length (now piece) ⌝ }
     ensures { λ _. ⌜ now (part .exit) ≡ now (piece .entry) ⌝ }
