@@ -30,11 +30,15 @@ fn expected_by_hand() {
     assert!(written(&input) == output);
 }
 
+/// The example session is answered as README.md prints it.
 #[test]
 fn example() {
     let input = file("examples/session.csv");
-    assert!(!line(&input).windows(2).any(|bytes| bytes == b"?\r"));
     same(&input);
+    let printed = String::from_utf8(line(&input)).unwrap().replace('\r', "");
+    let readme = String::from_utf8(file("README.md")).unwrap();
+    assert!(!printed.contains('?'));
+    assert!(readme.contains(&format!("```\n{printed}```\n")));
 }
 
 #[test]
