@@ -22,12 +22,12 @@ fn cross(out: &mut [u8], p: Pen, q: u64, m: u64, piece: Run) -> Pen
     requires { ⌜ (length (now out) ≡ mapSize width) × Fine p × Valid piece ⌝ }
     ensures { λ r. ⌜ Went p q (under piece m) (now (out .entry)) (now (out .exit)) r ⌝ }
 {
-    let before = pen::push(out, p, runbytes::lesser(q, piece.first), m);
+    let before = pen::push(out, p, common::lesser(q, piece.first), m);
     let inside = pen::push(
         out,
         before,
-        runbytes::lesser(q, piece.last + 1),
-        runbytes::greater(piece.number.0, m),
+        common::lesser(q, piece.last + 1),
+        common::greater(piece.number.0, m),
     );
     pen::push(out, inside, q, m)
 }
@@ -194,7 +194,7 @@ fn seen(x: u64, r: Run, v: View) -> View
         return View {
             age: v.age,
             end: v.end,
-            stop: runbytes::lesser(v.stop, r.first),
+            stop: common::lesser(v.stop, r.first),
         };
     }
     if x <= r.last {
@@ -235,7 +235,7 @@ pub fn rebuilt(out: &mut [u8], log: &[u8]) -> usize
     };
     while p.x <= common::EOF {
         v = look(log, p.x, v);
-        p = pen::push(out, p, runbytes::lesser(v.end, v.stop), v.age);
+        p = pen::push(out, p, common::lesser(v.end, v.stop), v.age);
     }
     pen::flush(out, p)
 }

@@ -3,7 +3,7 @@ use common::Number;
 use runs::Run;
 ghost use mathlib.Core.Path.{_≡_};
 ghost use mathlib.Core.Bool.{true};
-ghost use Prim.Native.Nat.{_+_, _≤_, _<_, _^_, min, max};
+ghost use Prim.Native.Nat.{_+_, _≤_, _<_, _^_};
 ghost use lib.ListN.{length};
 ghost use Rattle.common.specs.Counters.{width};
 ghost use Rattle.common.specs.Ranges.{eof};
@@ -55,26 +55,6 @@ pub fn put_run(s: &mut [u8], k: usize, r: Run)
     xdr::put_u32(s, at + 16, r.number.0);
 }
 
-// Takes the lesser of two numbers.
-pub fn lesser(a: u64, b: u64) -> u64
-    ensures { λ r. ⌜ r ≡ min a b ⌝ }
-{
-    if a < b {
-        return a;
-    }
-    b
-}
-
-// Takes the greater of two numbers.
-pub fn greater(a: u64, b: u64) -> u64
-    ensures { λ r. ⌜ r ≡ max a b ⌝ }
-{
-    if a < b {
-        return b;
-    }
-    a
-}
-
 // Tests that every run is valid: none falls, the greatest last byte is not past EOF, and the least number is at least 1.
 fn all_valid(s: &[u8]) -> bool
     requires { ⌜ runsEnd width (now s) ≤ length (now s) ⌝ }
@@ -88,8 +68,8 @@ fn all_valid(s: &[u8]) -> bool
     while i < n {
         let r = run_at(s, i);
         rising = rising & (r.first <= r.last);
-        last = greater(last, r.last);
-        number = lesser(number, r.number.0);
+        last = common::greater(last, r.last);
+        number = common::lesser(number, r.number.0);
         i += 1;
     }
     rising & (last <= common::EOF) & (0 < number)
