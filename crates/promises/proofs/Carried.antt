@@ -1,5 +1,5 @@
 -- What every run carries: the log's bytes are sound, its numbers small, its map short; and the map, while it is not lost, is sound and is the log's map.
-use Prim.Native.Nat.{ℕ, _+_, _≤_, _<_}
+use Prim.Native.Nat.{ℕ, _≤_, _<_}
 use native.Mathlib.Omega.{arith}
 use mathlib.Core.Bool.{Bool, true, false, _&&_, cond}
 use mathlib.Core.List.{List, [], _∷_, _++_}
@@ -10,28 +10,28 @@ use borrow.Author.Tests.{eqb-true, eq-eqb, lt-ltb}
 use Rattle.common.specs.Counters.{width, highest}
 use Rattle.common.proofs.Bools.{by-cond}
 use Rattle.xdr.specs.Be.{putBe}
-use Rattle.xdr.specs.Layout.{Fit}
 use Rattle.xdr.specs.Array.{putArray, putElements}
 use Rattle.xdr.proofs.Numbers.{put-be}
 use Rattle.xdr.proofs.Tabs.{length-tab, getD-tab}
 use Rattle.runs.specs.declared.Run.{Run}
 use Rattle.runs.specs.Owner.{owner}
 use Rattle.runs.specs.Map.{mapOf, raise, draw, end}
-use Rattle.runs.specs.Sound.{maxRuns, maxEntries, soundMap}
-use Rattle.runs.specs.Bytes.{runLayout, runFields, runsOf, runsEnd, mapSize, logSize, soundMapBytes, soundLogBytes, bytesOf, mapBytes, appended}
+use Rattle.runs.specs.Sound.{maxRuns, soundMap}
+use Rattle.runs.specs.Bytes.{runsOf, runsEnd, mapSize, logSize, soundMapBytes, soundLogBytes, bytesOf, mapBytes, appended}
 use Rattle.runs.proofs.Over.{over-is, owner-snoc}
-use Rattle.runs.proofs.Draw.{map-owner, raise-owner}
+use Rattle.runs.proofs.Draw.{map-owner}
 use Rattle.runs.proofs.Unique.{map-snoc}
-use Rattle.runs.proofs.Valid.{Valid, valid-cons}
-use Rattle.runs.proofs.Sound.{log-is, sound-is, map-sound}
+use Rattle.runs.proofs.Sound.{log-is, map-sound}
 use Rattle.runs.proofs.Blank.{blank, be-blank, no-runs, empty-map, empty-log}
-use Rattle.runs.proofs.MapBytes.{run-fits, map-back, map-back-sound, map-runs}
-use Rattle.runs.proofs.LogBytes.{LogBytes, log-bytes, bytes-log, entries, log-back, log-back-sound, log-same}
+use Rattle.runs.proofs.MapBytes.{map-back, map-back-sound}
+use Rattle.runs.proofs.LogBytes.{LogBytes, log-bytes, bytes-log, entries, log-same}
 use Rattle.stripe.specs.Refusals.{place}
 use Rattle.gilboreth.specs.Note.{noteAnswer, noteMap, noteLog}
 use Rattle.gilboreth.specs.Restart.{restartAnswer, restartMap}
-use Rattle.stripe.proofs.Accepted.{NoteFacts, note-facts, facts-restart, place-valid}
+use Rattle.stripe.proofs.Accepted.{NoteFacts, facts-restart}
+use Rattle.promises.specs.Logged.{Appends, Raises}
 use Rattle.promises.specs.Run.{Piece, size, Map, lost, live, Stripe, begin, Step, note, noteCut, write, writeCut, restart, cut, noteOk, afterNote, afterWrite, scrambled, next}
+use Rattle.promises.proofs.Logged.{accepted, appends, raises}
 
 abbrev pub entriesOf : Stripe → List Run
 entriesOf s = runsOf width (s .log)
@@ -60,55 +60,35 @@ pub record Noted (m l : List ℕ) (p : Piece) (image : ℕ) : Type 0 where
   pub map : IsMap (live (noteMap m l (p .first) (size p) (p .number) image)) (noteLog m l (p .first) (size p) (p .number) image)
 
 pub noted : (m log : List ℕ) (p : Piece) (image : ℕ) → Log log → IsMap (live m) log → eqb (noteAnswer m log (p .first) (size p) (p .number) image) 0 ≡ true → Noted m log p image
-unfolding noteAnswer noteMap noteLog
 noted m log p image L M e =
     record {
       some = F .placed .some;
-      log = subst Log (sym new-log) (record {
-        sound = log-bytes (appended width log r) (log-back-sound log r (L .sound) room fit v);
-        small = λ b. rw (back, owner-snoc (runsOf width log) r b) (let o = over-is (λ (k : ℕ). k ≤ highest width) r b (F .numbered .small) (omega arith) in omega (arith, L .small b));
-        few = rw (back, map-snoc (runsOf width log) r) (rw (M .1) at (F .few));
-      });
-      entries = ap (runsOf width) new-log ∙ back;
-      map = subst₂ (λ (a l : List ℕ). IsMap (live a) l) (sym new-map) (sym new-log)
-          (map-back-sound ms sound small, map-back ms sound small ∙ drawn, ap (mapBytes width) drawn);
+      log = record {
+        sound = log-bytes _ (A .sound);
+        small = λ b. rw (A .entries, owner-snoc (runsOf width log) r b) (let o = over-is (λ (k : ℕ). k ≤ highest width) r b (F .numbered .small) (omega arith) in omega (arith, L .small b));
+        few = rw (A .entries, map-snoc (runsOf width log) r) (rw (M .1) at (F .few));
+      };
+      entries = A .entries;
+      map = (R .sound, R .runs ∙ drawn, R .bytes ∙ ap (mapBytes width) drawn);
     }
   where
     r : Run
     r = placeOf p
 
+    z : noteAnswer m log (p .first) (size p) (p .number) image ≡ 0
+    z = eqb-true _ 0 e
+
     F : NoteFacts (soundMapBytes m) (soundLogBytes log) (runsOf width m) (runsOf width log) (p .first) (size p) (p .number) image
-    F = note-facts (soundMapBytes m) (soundLogBytes log) (runsOf width m) (runsOf width log) (p .first) (size p) (p .number) image (eqb-true _ 0 e)
+    F = accepted m log (p .first) (size p) (p .number) image z
 
-    v : Valid r
-    v = place-valid (p .first) (size p) (p .number) (F .placed) (F .numbered)
+    A : Appends log r (noteLog m log (p .first) (size p) (p .number) image)
+    A = appends m log (p .first) (size p) (p .number) image z
 
-    fit : Fit (runLayout width) (runFields r)
-    fit = run-fits r v (F .numbered .small)
+    R : Raises m r (noteMap m log (p .first) (size p) (p .number) image)
+    R = raises m log (p .first) (size p) (p .number) image z (λ b. rw (M .1, map-owner (runsOf width log) b) (L .small b))
 
-    room : length (runsOf width log) < maxEntries
-    room = F .room
-
-    back : runsOf width (appended width log r) ≡ runsOf width log ++ (r ∷ [])
-    back = log-back log r (L .sound) room fit
-
-    ms : List Run
-    ms = raise r (runsOf width m)
-
-    sound : soundMap ms ≡ true
-    sound = map-sound (r ∷ runsOf width m) (valid-cons r (runsOf width m) v (sound-is (runsOf width m) (map-runs m (M .0)) .good)) (F .few)
-
-    small : (b : ℕ) → owner ms b ≤ highest width
-    small b = rw (raise-owner r (runsOf width m) b, M .1, map-owner (runsOf width log) b) (let o = over-is (λ (k : ℕ). k ≤ highest width) r b (F .numbered .small) (omega arith) in omega (arith, L .small b))
-
-    drawn : ms ≡ mapOf (runsOf width (appended width log r))
-    drawn = ap (λ (l : List Run). raise r l) (M .1) ∙ sym (map-snoc (runsOf width log) r) ∙ ap mapOf (sym back)
-
-    new-log : noteLog m log (p .first) (size p) (p .number) image ≡ appended width log r
-    new-log = ap (λ (t : Bool). cond t (appended width log r) log) e
-
-    new-map : noteMap m log (p .first) (size p) (p .number) image ≡ mapBytes width ms
-    new-map = ap (λ (t : Bool). cond t (mapBytes width ms) m) e
+    drawn : raise r (runsOf width m) ≡ mapOf (runsOf width (noteLog m log (p .first) (size p) (p .number) image))
+    drawn = ap (λ (l : List Run). raise r l) (M .1) ∙ sym (map-snoc (runsOf width log) r) ∙ ap mapOf (sym (A .entries))
 
 -- Bytes past the entries say nothing
 module _ (junk : ℕ → ℕ) (log : List ℕ) (L : Log log) where

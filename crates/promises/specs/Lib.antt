@@ -2,6 +2,7 @@ pub mod Demand1
 pub mod Among
 pub mod Session
 pub mod Demand2
+pub mod Logged
 pub mod Run
 pub mod Demand3
 pub mod Seam

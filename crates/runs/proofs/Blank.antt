@@ -35,9 +35,13 @@ unfolding be
 be-blank zero n at = refl
 be-blank (suc w) n at = omega (arith, be-blank w n at, blank n (at + w))
 
-pub no-runs : (n : ℕ) → runsOf width (replicate n 0) ≡ []
+-- bytes with the count 0 say no run, whatever stands after it
+pub none-counted : (s : List ℕ) → be 4 s 0 ≡ 0 → runsOf width s ≡ []
 unfolding runsOf array tab
-no-runs n = ap (λ (k : ℕ). map runOf (tab k (λ i. fields (runLayout width) (replicate n 0) (4 + 20 * i) 0))) (be-blank 4 n 0)
+none-counted s e = ap (λ (k : ℕ). map runOf (tab k (λ i. fields (runLayout width) s (4 + 20 * i) 0))) e
+
+pub no-runs : (n : ℕ) → runsOf width (replicate n 0) ≡ []
+no-runs n = none-counted (replicate n 0) (be-blank 4 n 0)
 
 pub empty-map : soundMapBytes (replicate (mapSize width) 0) ≡ true
 unfolding soundMapBytes soundMap apart
@@ -45,6 +49,9 @@ empty-map =
     rw (eq-eqb (length (replicate {A = ℕ} (mapSize width) 0)) (mapSize width) (length-replicate {A = ℕ} (mapSize width) 0), no-runs (mapSize width))
     (zeros-from (replicate (mapSize width) 0) (runsEnd width (replicate (mapSize width) 0)) (λ b _. blank (mapSize width) b))
 
-pub empty-log : soundLogBytes (replicate (logSize width) 0) ≡ true
+pub none-logged : (log : List ℕ) → length log ≡ logSize width → be 4 log 0 ≡ 0 → soundLogBytes log ≡ true
 unfolding soundLogBytes soundLog
-empty-log = rw (eq-eqb (length (replicate {A = ℕ} (logSize width) 0)) (logSize width) (length-replicate {A = ℕ} (logSize width) 0), no-runs (logSize width))
+none-logged log l e = rw (eq-eqb (length log) (logSize width) l, none-counted log e)
+
+pub empty-log : soundLogBytes (replicate (logSize width) 0) ≡ true
+empty-log = none-logged (replicate (logSize width) 0) (length-replicate {A = ℕ} (logSize width) 0) (be-blank 4 (logSize width) 0)

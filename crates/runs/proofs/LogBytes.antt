@@ -11,13 +11,13 @@ use borrow.Author.Tests.{eq-eqb, eqb-true}
 use Rattle.common.specs.Counters.{width}
 use Rattle.common.proofs.Bools.{and-left, and-right}
 use Rattle.xdr.specs.Be.{be, putBe}
-use Rattle.xdr.specs.Layout.{fields, putFields, Fit}
+use Rattle.xdr.specs.Layout.{fields, putFields, size, Fit}
 use Rattle.xdr.specs.Array.{array}
 use Rattle.xdr.specs.Tab.{tab}
 use Rattle.xdr.proofs.Numbers.{be-put-same, put-length, put-other}
 use Rattle.xdr.proofs.Fields.{fields-ext, fields-put, put-fields-length, put-fields-other}
 use Rattle.xdr.proofs.Tabs.{tab-ext, tab-snoc, length-tab}
-use Rattle.xdr.proofs.Arrays.{array-ext}
+use Rattle.xdr.proofs.Arrays.{fields-put-count, array-ext}
 use Rattle.runs.specs.declared.Run.{Run}
 use Rattle.runs.specs.Sound.{maxEntries, soundLog}
 use Rattle.runs.specs.Bytes.{runLayout, runOf, runFields, runsOf, logSize, runsEnd, soundLogBytes, appended}
@@ -49,7 +49,18 @@ pub entries : (log : List ℕ) → length (runsOf width log) ≡ be 4 log 0
 unfolding runsOf array
 entries log = length-map (tab (be 4 log 0) (entry log)) runOf ∙ length-tab (be 4 log 0) (entry log)
 
--- A log with one entry more
+-- A log with one entry more: no byte changes but those of the new entry and of the count
+module _ (log : List ℕ) (r : Run) where
+  pub log-other : (k : ℕ) → 4 ≤ k → ((j : ℕ) → j < size (runLayout width) → k ≡ runsEnd width log + j → ⊥) → getD (appended width log r) k 0 ≡ getD log k 0
+  unfolding appended
+  log-other k h o =
+      put-other 4 _ 0 _ k (λ j p e. omega arith)
+      ∙ put-fields-other (runLayout width) log _ 0 (runFields r) k (λ j p e. o j p (omega arith))
+
+  pub log-long : length (appended width log r) ≡ length log
+  unfolding appended
+  log-long = put-length 4 _ 0 _ ∙ put-fields-length (runLayout width) log _ 0 (runFields r)
+
 module _ (log : List ℕ) (r : Run) (l : LogBytes log) (room : length (runsOf width log) < maxEntries) (fit : Fit (runLayout width) (runFields r)) where
   n : ℕ
   n = be 4 log 0
@@ -57,10 +68,6 @@ module _ (log : List ℕ) (r : Run) (l : LogBytes log) (room : length (runsOf wi
   -- the entry is put down, and then the count
   put : List ℕ
   put = putFields (runLayout width) log (4 + 20 * n) 0 (runFields r)
-
-  put-long : length put ≡ length log
-  unfolding put
-  put-long = put-fields-length (runLayout width) log (4 + 20 * n) 0 (runFields r)
 
   appended-is : appended width log r ≡ putBe 4 put 0 (n + 1)
   unfolding appended put n
@@ -70,27 +77,24 @@ module _ (log : List ℕ) (r : Run) (l : LogBytes log) (room : length (runsOf wi
   unfolding n
   few = subst (λ (k : ℕ). k < maxEntries) (entries log) room
 
-  more : be 4 (appended width log r) 0 ≡ n + 1
-  more = rw appended-is (be-put-same 4 put 0 (n + 1) (rw put-long (let z = l .long in omega arith)) (let z = few in omega arith))
-
-  counted : (i : ℕ) → entry (appended width log r) i ≡ entry put i
-  counted i = rw appended-is (fields-ext (runLayout width) _ put (4 + 20 * i) (4 + 20 * i) 0 (λ j p. put-other 4 put 0 (n + 1) (4 + 20 * i + (0 + j)) (λ k q e. omega arith)))
+  pub log-count : be 4 (appended width log r) 0 ≡ be 4 log 0 + 1
+  unfolding n put
+  log-count = rw appended-is (be-put-same 4 put 0 (n + 1) (rw put-fields-length (let z = l .long in omega arith)) (let z = few in omega arith))
 
   older : (i : ℕ) → i < n → entry (appended width log r) i ≡ entry log i
-  unfolding put
-  older i h =
-      counted i
-      ∙ fields-ext (runLayout width) _ log (4 + 20 * i) (4 + 20 * i) 0
-      (λ j p. put-fields-other (runLayout width) log (4 + 20 * n) 0 (runFields r) (4 + 20 * i + (0 + j)) (λ k q e. omega arith))
+  unfolding n
+  older i h = fields-ext (runLayout width) _ log (4 + 20 * i) (4 + 20 * i) 0 (λ j p. log-other log r (4 + 20 * i + (0 + j)) (omega arith) (λ k q e. omega arith))
 
   newer : entry (appended width log r) n ≡ runFields r
   unfolding put
-  newer = counted n ∙ fields-put (runLayout width) log (4 + 20 * n) 0 (runFields r) (let z = few in let y = l .long in omega arith) fit
+  newer =
+      rw appended-is (fields-put-count (runLayout width) put 0 (n + 1) n)
+      ∙ fields-put (runLayout width) log (4 + 20 * n) 0 (runFields r) (let z = few in let y = l .long in omega arith) fit
 
   pub log-back : runsOf width (appended width log r) ≡ runsOf width log ++ (r ∷ [])
   unfolding runsOf array n
   log-back =
-      ap (λ (k : ℕ). map runOf (tab k (entry (appended width log r)))) (more ∙ add-one n)
+      ap (λ (k : ℕ). map runOf (tab k (entry (appended width log r)))) (log-count ∙ add-one n)
       ∙ ap (map runOf) (tab-snoc n (entry (appended width log r)) ∙ ap (λ (x : List ℕ). tab n (entry (appended width log r)) ++ (x ∷ [])) newer
       ∙ ap (λ (xs : List (List ℕ)). xs ++ (runFields r ∷ [])) (tab-ext n (entry (appended width log r)) (entry log) older))
       ∙ map-append runOf (tab n (entry log)) (runFields r ∷ [])
@@ -99,7 +103,7 @@ module _ (log : List ℕ) (r : Run) (l : LogBytes log) (room : length (runsOf wi
   log-back-sound v =
       bytes-log (appended width log r)
       (record {
-        long = rw appended-is (put-length 4 put 0 (n + 1) ∙ put-long ∙ l .long);
+        long = log-long log r ∙ l .long;
         sound = rw log-back (is-log (runsOf width log ++ (r ∷ []))
             (record { few = omega (arith, length-append (runsOf width log) (r ∷ [])); good = valid-snoc (runsOf width log) r (log-is (runsOf width log) (l .sound) .good) v }));
       })

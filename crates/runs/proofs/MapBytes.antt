@@ -1,18 +1,20 @@
 -- The bytes of a sound map of small numbers are a sound map's bytes, and say it.
-use Prim.Native.Nat.{ℕ, _+_, _*_, _^_, _≤_, _<_}
+use Prim.Native.Nat.{ℕ, zero, suc, _+_, _*_, _^_, _≤_, _<_}
 use native.Mathlib.Omega.{arith}
 use mathlib.Core.Bool.{true, _&&_}
 use mathlib.Core.List.{List, [], _∷_, map}
 use mathlib.Core.Path.{_≡_, refl, sym, ap, _∙_}
 use lib.Dec.{eqb}
-use lib.ListN.{length, drop, replicate, length-replicate, length-map}
+use lib.ListN.{length, getD, drop, replicate, length-replicate, length-map}
 use borrow.Author.Tests.{eq-eqb}
 use Rattle.common.specs.Counters.{width, highest}
 use Rattle.common.specs.Tests.{zeros}
 use Rattle.common.proofs.Bools.{and-left, and-right}
-use Rattle.xdr.specs.Be.{be}
+use Rattle.xdr.specs.Be.{Bytes, be}
 use Rattle.xdr.specs.Layout.{fields, Fit}
 use Rattle.xdr.specs.Array.{array, arraySize, Fits}
+use Rattle.xdr.specs.Tab.{tab}
+use Rattle.xdr.proofs.Numbers.{be-lt}
 use Rattle.xdr.proofs.Tabs.{length-tab}
 use Rattle.xdr.proofs.Arrays.{array-put, put-array-length, put-array-other}
 use Rattle.runs.specs.declared.Run.{Run}
@@ -20,6 +22,7 @@ use Rattle.runs.specs.Owner.{ageOf, owner}
 use Rattle.runs.specs.Sound.{allValid, soundMap}
 use Rattle.runs.specs.Bytes.{runLayout, runOf, runFields, runsOf, mapSize, runsEnd, soundMapBytes, bytesOf, mapBytes}
 use Rattle.runs.proofs.Blank.{zeros-from, blank}
+use Rattle.runs.proofs.Over.{over-is}
 use Rattle.runs.proofs.Canon.{Canon, none, next, canon-head}
 use Rattle.runs.proofs.Valid.{Valid, valid-head, valid-rest}
 use Rattle.runs.proofs.Sound.{sound-is, sound-canon}
@@ -91,3 +94,16 @@ unfolding soundMapBytes
 map-runs m e =
     let h = and-right (eqb (length m) (mapSize width)) (soundMap (runsOf width m) && zeros (drop (runsEnd width m) m)) e in
     and-left (soundMap (runsOf width m)) (zeros (drop (runsEnd width m) m)) h
+
+-- Bytes say numbers of 4 bytes, so none is above the highest
+owner-tab : (n : ℕ) (f : ℕ → List ℕ) → ((i : ℕ) → getD (f i) 2 0 ≤ highest width) → (b : ℕ) → owner (map runOf (tab n f)) b ≤ highest width
+unfolding owner tab
+owner-tab zero f h b = omega arith
+owner-tab (suc n) f h b =
+    let o = over-is (λ (k : ℕ). k ≤ highest width) (runOf (f 0)) b (h 0) (omega arith) in
+    omega (arith, owner-tab n (λ i. f (suc i)) (λ i. h (suc i)) b)
+
+pub owner-small : (s : List ℕ) → Bytes s → (b : ℕ) → owner (runsOf width s) b ≤ highest width
+unfolding runsOf array fields
+owner-small s h b =
+    owner-tab (be 4 s 0) (λ i. fields (runLayout width) s (4 + 20 * i) 0) (λ i. let l = be-lt 4 s (4 + 20 * i + (0 + 8 + 8)) h in omega arith) b
