@@ -5,7 +5,7 @@ use mathlib.Core.Bool.{Bool, true, false, _&&_, cond}
 use mathlib.Core.List.{List, [], _∷_, _++_}
 use mathlib.Core.Path.{_≡_, refl, sym, ap, subst, subst₂, _∙_}
 use lib.Dec.{eqb, ltb}
-use lib.ListN.{length, getD, replicate}
+use lib.ListN.{length, getD, replicate, length-replicate}
 use borrow.Author.Tests.{eqb-true, eq-eqb, lt-ltb}
 use Rattle.common.specs.Counters.{width, highest}
 use Rattle.common.proofs.Bools.{by-cond}
@@ -22,7 +22,7 @@ use Rattle.runs.proofs.Over.{over-is, owner-snoc}
 use Rattle.runs.proofs.Draw.{map-owner}
 use Rattle.runs.proofs.Unique.{map-snoc}
 use Rattle.runs.proofs.Sound.{log-is, map-sound}
-use Rattle.runs.proofs.Blank.{blank, be-blank, no-runs, empty-map, empty-log}
+use Rattle.runs.proofs.Blank.{blank, be-blank, none-counted, none-logged, no-runs, empty-map}
 use Rattle.runs.proofs.MapBytes.{map-back, map-back-sound}
 use Rattle.runs.proofs.LogBytes.{LogBytes, log-bytes, bytes-log, entries, log-same}
 use Rattle.stripe.specs.Refusals.{place}
@@ -30,7 +30,7 @@ use Rattle.gilboreth.specs.Note.{noteAnswer, noteMap, noteLog}
 use Rattle.gilboreth.specs.Restart.{restartAnswer, restartMap}
 use Rattle.stripe.proofs.Accepted.{NoteFacts, facts-restart}
 use Rattle.promises.specs.Logged.{Appends, Raises}
-use Rattle.promises.specs.Run.{Piece, size, Map, lost, live, Stripe, begin, Step, note, noteCut, write, writeCut, restart, cut, noteOk, afterNote, afterWrite, scrambled, next}
+use Rattle.promises.specs.Run.{Piece, size, Map, lost, live, Stripe, EmptyLog, begin, Step, note, noteCut, write, writeCut, restart, cut, noteOk, afterNote, afterWrite, scrambled, next}
 use Rattle.promises.proofs.Logged.{accepted, appends, raises}
 
 abbrev pub entriesOf : Stripe → List Run
@@ -188,18 +188,19 @@ empty-bytes : (n : ℕ) → bytesOf width n [] ≡ replicate n 0
 unfolding putArray putElements
 empty-bytes n = ap (putBe 4 (replicate n 0) 0) (sym (be-blank 4 n 0)) ∙ put-be 4 (replicate n 0) 0 (λ b. let e = blank n b in omega arith)
 
-pub begin-carried : (image : List ℕ) → Carried (begin image)
+pub begin-carried : (log image : List ℕ) → EmptyLog log → Carried (begin log image)
 unfolding owner mapOf draw end mapBytes
-begin-carried image =
+begin-carried log image E =
+    let none : runsOf width log ≡ [] = none-counted log (E .1) in
     record {
-      log = record {
-        sound = log-bytes (replicate (logSize width) 0) empty-log;
-        small = λ b. rw (no-runs (logSize width)) (omega arith);
-        few = rw (no-runs (logSize width)) (omega arith);
-      };
+      log = record { sound = log-bytes log (none-logged log (E .0) (E .1)); small = λ b. rw none (omega arith); few = rw none (omega arith) };
       map = (
         empty-map,
-        no-runs (mapSize width) ∙ sym (ap mapOf (no-runs (logSize width))),
-        sym (ap (λ (rs : List Run). mapBytes width (mapOf rs)) (no-runs (logSize width)) ∙ empty-bytes (mapSize width)),
+        no-runs (mapSize width) ∙ sym (ap mapOf none),
+        sym (ap (λ (rs : List Run). mapBytes width (mapOf rs)) none ∙ empty-bytes (mapSize width)),
       );
     }
+
+-- all zeros is an empty log
+pub zeros-log : EmptyLog (replicate (logSize width) 0)
+zeros-log = (length-replicate {A = ℕ} (logSize width) 0, be-blank 4 (logSize width) 0)

@@ -7,9 +7,7 @@ use mathlib.Core.List.{List, [], _∷_, _++_}
 use lib.ListN.{length, getD}
 use Rattle.runs.specs.declared.Run.{Run}
 use Rattle.runs.specs.Owner.{owner}
-use Rattle.common.specs.Counters.{width}
-use Rattle.runs.specs.Bytes.{logSize}
-use Rattle.runs.proofs.Blank.{no-runs}
+use Rattle.runs.proofs.Blank.{none-counted}
 use Rattle.promises.specs.Run.{Piece, ageOf, Covers, byteOf, Map, lost, live, Stripe, begin, Step, next, after, notes, noted, Write, writes, accepted}
 use Rattle.promises.specs.Among.{Among}
 use Rattle.promises.specs.Demand3.{HasWrite, Finished, Demand3, LogsMap, Steady, Always}
@@ -77,10 +75,10 @@ top-most (p ∷ ps) b N h =
 
 pub demand3 : Demand3
 unfolding owner
-demand3 image es agree sent finished =
-    let s : Stripe = begin image in
-    let g : Carried s = begin-carried image in
-    let z : (b : ℕ) → owner (entriesOf s) b ≡ 0 = λ b. ap (λ (rs : List Run). owner rs b) (no-runs (logSize width)) in
+demand3 log image es empty agree sent finished =
+    let s : Stripe = begin log image in
+    let g : Carried s = begin-carried log image empty in
+    let z : (b : ℕ) → owner (entriesOf s) b ≡ 0 = λ b. ap (λ (rs : List Run). owner rs b) (none-counted log (empty .1)) in
     record {
       some = greatest (noted s es);
       under = λ b p G.
@@ -105,4 +103,4 @@ steady s C = record { map = go (s .map) (C .map); restarts = λ buffer h. restar
     go (live m) M = (M .0, M .2)
 
 pub always : Always
-always image es = steady (after (begin image) es) (run-carried es (begin image) (begin-carried image))
+always log image es empty = steady (after (begin log image) es) (run-carried es (begin log image) (begin-carried log image empty))

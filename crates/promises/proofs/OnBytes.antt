@@ -15,8 +15,8 @@ use Rattle.xdr.specs.Array.{array}
 use Rattle.table.specs.Table.{Table}
 use Rattle.table.specs.Bytes.{tableSize, tableOf, soundTableBytes}
 use Rattle.runs.specs.declared.Run.{Run}
-use Rattle.runs.specs.Bytes.{mapSize, logSize}
-use Rattle.runs.proofs.Blank.{no-runs}
+use Rattle.runs.specs.Bytes.{mapSize}
+use Rattle.runs.proofs.Blank.{none-counted, no-runs}
 use Rattle.stripe.specs.Stripe as rules
 use Rattle.locks.specs.declared.Message.{Message}
 use Rattle.locks.specs.Serve.{Outcome, serve}
@@ -24,7 +24,7 @@ use Rattle.locks.specs.Events.{eventLayout, eventFields}
 use Rattle.serve.specs.declared.Answer.{Answer}
 use Rattle.promises.specs.Demand1.{Served}
 use Rattle.promises.specs.Demand2.{Called}
-use Rattle.promises.specs.Run as run
+use Rattle.promises.specs.Run.{EmptyLog, begin}
 use Rattle.promises.specs.Examples.{Row, sending, calling, dots, computed, lines, session, examples, examples-hold}
 use Rattle.promises.specs.Examples as examples
 use Rattle.promises.specs.OnBytes.{shown, Prints, done, call, Holds, AllHold, OnBytes}
@@ -80,8 +80,8 @@ imageOf : Row → List ℕ
 imageOf (sending sent printed) = []
 imageOf (calling made answered m image) = image
 
-begins : decoded (run.begin dots) ≡ examples.begin
-begins = λ i. record { map = no-runs (mapSize width) i; log = no-runs (logSize width) i; image = dots }
+begins : (log : List ℕ) → EmptyLog log → decoded (begin log dots) ≡ examples.begin
+begins log E = λ i. record { map = no-runs (mapSize width) i; log = none-counted log (E .1) i; image = dots }
 
 row-holds : (r : Row) → computed r ≡ r → Holds r
 unfolding printedOf answeredOf mapOf imageOf
@@ -91,10 +91,10 @@ row-holds (sending sent printed) e =
     λ ls P. prints P zeros-sound ∙ ap (λ (X : Table). session X sent) (zeros-empty (tableSize width)) ∙ ap printedOf e in
     let some = some-print sent zero-table (blank-bytes (tableSize width)) in
     (subst (λ (ls : List (List ℕ)). Prints zero-table sent ls) (only (some .0) (some .1)) (some .1), only)
-row-holds (calling made answered m image) e =
-    let F = follows made (replicate (mapSize width) 0) (replicate (logSize width) 0) dots (begin-carried dots) in
-    let s = F .stripe ∙ ap (λ (x : rules.Stripe). examples.after x made) begins in (
-      F .answers ∙ ap (λ (x : rules.Stripe). examples.answers x made) begins ∙ ap answeredOf e,
+row-holds (calling made answered m image) e = λ log E.
+    let F = follows made (replicate (mapSize width) 0) log dots (begin-carried log dots E) in
+    let s = F .stripe ∙ ap (λ (x : rules.Stripe). examples.after x made) (begins log E) in (
+      F .answers ∙ ap (λ (x : rules.Stripe). examples.answers x made) (begins log E) ∙ ap answeredOf e,
       ap (λ (x : rules.Stripe). x .map) s ∙ ap mapOf e,
       ap (λ (x : rules.Stripe). x .image) s ∙ ap imageOf e,
     )

@@ -27,8 +27,8 @@ row-at a (suc k) zero h = omega arith
 row-at a (suc k) (suc i) h = let e = row-at (suc a) k i (omega arith) in omega arith
 
 pub seam : Seam
-seam ms es v S s i j h k image run agree sent finished b p q pin pn pc qin qn qc only =
-    demand3 image run agree sent finished .under b q (qin, qc, (λ r m c. most r m c))
+seam ms es v S s i j h k log image run new agree sent finished b p q pin pn pc qin qn qc only =
+    demand3 log image run new agree sent finished .under b q (qin, qc, (λ r m c. most r m c))
   where
     row : numbers s es ≡ upFrom 1 (lastOf (after empty ms) s)
     row =
@@ -42,7 +42,7 @@ seam ms es v S s i j h k image run agree sent finished b p q pin pn pc qin qn qc
     at : (n : ℕ) → n < lastOf (after empty ms) s → numberAt s es n ≡ 1 + n
     at n l = ap (λ (l : List ℕ). getD l n 0) row ∙ row-at 1 (lastOf (after empty ms) s) n l
 
-    most : (r : Piece) → Among r (noted (begin image) run) → Covers r b → r .number ≤ q .number
+    most : (r : Piece) → Among r (noted (begin log image) run) → Covers r b → r .number ≤ q .number
     most r m c =
         let x = at i (let l = last in omega arith) in
         let y = at j last in

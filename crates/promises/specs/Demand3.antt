@@ -12,7 +12,7 @@ use Rattle.runs.specs.Map.{mapOf}
 use Rattle.runs.specs.Bytes.{runsOf, mapSize, soundMapBytes, mapBytes}
 use Rattle.gilboreth.specs.Restart.{restartAnswer}
 use Rattle.promises.specs.Among.{Among}
-use Rattle.promises.specs.Run.{Piece, ageOf, Covers, byteOf, Map, lost, live, Stripe, begin, Step, after, noted, Write, accepted}
+use Rattle.promises.specs.Run.{Piece, ageOf, Covers, byteOf, Map, lost, live, Stripe, EmptyLog, begin, Step, after, noted, Write, accepted}
 
 abbrev pub HasWrite : Piece → List Write → Type 0
 HasWrite p [] = ⊥
@@ -39,11 +39,11 @@ pub record Kept (ps : List Piece) (old new : List ℕ) : Type 0 where
 
 abbrev pub Demand3 : Type 0
 Demand3 =
-    (image : List ℕ) (es : List Step)
-    → Agree (accepted (begin image) es)
-    → ((p : Piece) → Among p (noted (begin image) es) → HasWrite p (accepted (begin image) es))
-    → Finished (accepted (begin image) es)
-    → Kept (noted (begin image) es) image (after (begin image) es .image)
+    (log image : List ℕ) (es : List Step) → EmptyLog log
+    → Agree (accepted (begin log image) es)
+    → ((p : Piece) → Among p (noted (begin log image) es) → HasWrite p (accepted (begin log image) es))
+    → Finished (accepted (begin log image) es)
+    → Kept (noted (begin log image) es) image (after (begin log image) es .image)
 
 -- With it: "in every run the map is the log's map, and no restart is refused". While the map is not lost it is sound, and to the byte what a restart
 -- fills in; a restart is lent a buffer of the map's length
@@ -56,4 +56,4 @@ pub record Steady (s : Stripe) : Type 0 where
   pub restarts : (buffer : List ℕ) → length buffer ≡ mapSize width → restartAnswer buffer (s .log) ≡ 0
 
 abbrev pub Always : Type 0
-Always = (image : List ℕ) (es : List Step) → Steady (after (begin image) es)
+Always = (log image : List ℕ) (es : List Step) → EmptyLog log → Steady (after (begin log image) es)

@@ -18,7 +18,7 @@ use Rattle.gilboreth.specs.Messages.{outcome}
 use Rattle.gilboreth.specs.Note.{noteAnswer}
 use Rattle.gilboreth.specs.Write.{writeAnswer}
 use Rattle.promises.specs.Run as run
-use Rattle.promises.specs.Run.{Piece, Map, lost, live, Stripe, Step, next}
+use Rattle.promises.specs.Run.{Piece, Map, lost, live, Stripe, EmptyLog, begin, Step, next}
 use Rattle.promises.specs.Examples.{Call, noting, writing, Row, sending, calling, dots, examples}
 
 -- The lines of messages from the table's bytes t on: of each call refusal and handle, and the events that its buffer then holds
@@ -55,12 +55,13 @@ abbrev pub runsIn : Map → List Run
 runsIn lost = []
 runsIn (live m) = runsOf width m
 
--- A row holds on bytes: the calls print its lines, and whatever buffers are lent for events, no other
+-- A row holds on bytes: the calls print its lines, and whatever buffers are lent for events, no other; and from whatever empty log
 abbrev pub Holds : Row → Type 0
 Holds (sending sent printed) =
     Prints (replicate (tableSize width) 0) sent printed × ((ls : List (List ℕ)) → Prints (replicate (tableSize width) 0) sent ls → ls ≡ printed)
 Holds (calling made answered map image) =
-    (answers (run.begin dots) made ≡ answered) × (runsIn (after (run.begin dots) made .map) ≡ map) × (after (run.begin dots) made .image ≡ image)
+    (log : List ℕ) → EmptyLog log
+    → (answers (begin log dots) made ≡ answered) × (runsIn (after (begin log dots) made .map) ≡ map) × (after (begin log dots) made .image ≡ image)
 
 abbrev pub AllHold : List Row → Type 0
 AllHold [] = Unit {0}

@@ -1,10 +1,12 @@
 -- A run of one stripe: notes, writes and restarts as the entries leave their buffers, with cuts anywhere. Document 01, "Note, write, restart".
 use Prim.Native.Nat.{ℕ, _+_, _-_, _≤_, _<_}
+use mathlib.Core.Path.{_≡_}
 use mathlib.Core.Bool.{Bool, true, false, _&&_, cond}
 use mathlib.Core.List.{List, [], _∷_, _++_}
 use lib.Dec.{eqb, ltb}
 use lib.ListN.{length, getD, replicate}
 use Rattle.common.specs.Counters.{width}
+use Rattle.xdr.specs.Be.{be}
 use Rattle.xdr.specs.Tab.{tab}
 use Rattle.runs.specs.Bytes.{runsOf, runsEnd, mapSize, logSize}
 use Rattle.stripe.specs.Stripe.{written}
@@ -42,9 +44,12 @@ pub record Stripe : Type 0 where
   pub log : List ℕ
   pub image : List ℕ
 
--- "A run starts with an empty map and log"
-abbrev pub begin : List ℕ → Stripe
-begin image = record { map = live (replicate (mapSize width) 0); log = replicate (logSize width) 0; image = image }
+-- "A run starts with an empty map and log": the map is all zeros; the log has the count 0, and "Bytes after the last entry may be anything"
+abbrev pub EmptyLog : List ℕ → Type 0
+EmptyLog log = (length log ≡ logSize width) × (be 4 log 0 ≡ 0)
+
+abbrev pub begin : List ℕ → List ℕ → Stripe
+begin log image = record { map = live (replicate (mapSize width) 0); log = log; image = image }
 
 -- A step: a call that runs to its end, a call that is cut, or a cut at any other time. Of a cut note `new` says whether it left the new log, and
 -- `junk` what stands past the entries; of a cut write `junk` says what it left at the places that it would store. Restart is lent a buffer of any content

@@ -11,7 +11,7 @@ use Rattle.table.specs.Bytes.{tableSize}
 use Rattle.locks.specs.declared.Message.{Message}
 use Rattle.locks.specs.Settle.{Event}
 use Rattle.locks.specs.Session.{numbers}
-use Rattle.promises.specs.Run.{Piece, Covers, byteOf, begin, Step, after, noted, accepted}
+use Rattle.promises.specs.Run.{Piece, Covers, byteOf, EmptyLog, begin, Step, after, noted, accepted}
 use Rattle.promises.specs.Among.{Among}
 use Rattle.promises.specs.Demand3.{HasWrite, Agree, Finished}
 use Rattle.promises.specs.Session.{Session}
@@ -24,12 +24,12 @@ abbrev pub Seam : Type 0
 Seam =
     (ms : List Message) (es : List Event) (v : List ℕ) → Session (replicate (tableSize width) 0) ms es v
     → (s i j : ℕ) → i < j → j < length (numbers s es)
-    → (image : List ℕ) (run : List Step)
-    → Agree (accepted (begin image) run)
-    → ((p : Piece) → Among p (noted (begin image) run) → HasWrite p (accepted (begin image) run))
-    → Finished (accepted (begin image) run)
+    → (log image : List ℕ) (run : List Step) → EmptyLog log
+    → Agree (accepted (begin log image) run)
+    → ((p : Piece) → Among p (noted (begin log image) run) → HasWrite p (accepted (begin log image) run))
+    → Finished (accepted (begin log image) run)
     → (b : ℕ) (earlier later : Piece)
-    → Among earlier (noted (begin image) run) → earlier .number ≡ numberAt s es i → Covers earlier b
-    → Among later (noted (begin image) run) → later .number ≡ numberAt s es j → Covers later b
-    → ((p : Piece) → Among p (noted (begin image) run) → Covers p b → (p .number ≡ numberAt s es i) ⊎ (p .number ≡ numberAt s es j))
-    → getD (after (begin image) run .image) b 0 ≡ byteOf later b
+    → Among earlier (noted (begin log image) run) → earlier .number ≡ numberAt s es i → Covers earlier b
+    → Among later (noted (begin log image) run) → later .number ≡ numberAt s es j → Covers later b
+    → ((p : Piece) → Among p (noted (begin log image) run) → Covers p b → (p .number ≡ numberAt s es i) ⊎ (p .number ≡ numberAt s es j))
+    → getD (after (begin log image) run .image) b 0 ≡ byteOf later b
