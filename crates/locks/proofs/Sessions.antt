@@ -22,13 +22,13 @@ use Rattle.locks.specs.Conflicts.{hurries}
 use Rattle.locks.specs.Settle.{Event, grantEvent, revocation, given, inState, nextNumber, lastsAfter, widest, grant, free, turns, wanted, revocations, settle}
 use Rattle.locks.specs.Refusals.{refusal}
 use Rattle.locks.specs.Serve.{Outcome, change, answered, accepted, refused, serve}
-use Rattle.locks.specs.Session.{after, events, writeGrant, numbers}
+use Rattle.locks.specs.Session.{tableAfter, events, writeGrant, numbers}
 use Rattle.locks.proofs.Numbering.{next-is, lasts-at}
 use Rattle.locks.proofs.Turn.{w-valid-here}
 use Rattle.locks.proofs.Walk.{OnGrant, OnWait, walk}
 use Rattle.locks.proofs.Served.{change-sound, serve-sound}
 
-pub session-sound : (t : Table) (ms : List Message) → T (sound t) → T (sound (after t ms))
+pub session-sound : (t : Table) (ms : List Message) → T (sound t) → T (sound (tableAfter t ms))
 session-sound t [] s = s
 session-sound t (m ∷ ms) s = session-sound (serve t m .table) ms (serve-sound t m s)
 
@@ -117,10 +117,10 @@ serve-counted t m s q =
     subst (λ (l : List ℕ). Counted s (getD l s 0) (settle u .table .lasts) (settle u .events)) (same-lasts t m) (settle-counted u s (change-sound t m e (sound→ t q))))
     (λ e. nothing s (t .lasts))
 
-pub session-counted : (t : Table) (ms : List Message) (s : ℕ) → T (sound t) → Counted s (lastOf t s) (after t ms .lasts) (events t ms)
+pub session-counted : (t : Table) (ms : List Message) (s : ℕ) → T (sound t) → Counted s (lastOf t s) (tableAfter t ms .lasts) (events t ms)
 session-counted t [] s q = nothing s (t .lasts)
 session-counted t (m ∷ ms) s q =
-    joined s (lastOf t s) (serve t m .table .lasts) (after (serve t m .table) ms .lasts) (serve t m .events) (events (serve t m .table) ms)
+    joined s (lastOf t s) (serve t m .table .lasts) (tableAfter (serve t m .table) ms .lasts) (serve t m .events) (events (serve t m .table) ms)
     (serve-counted t m s q) (session-counted (serve t m .table) ms s (serve-sound t m q))
 
 -- From the empty table: 1, 2, 3, .. up to the stripe's last number
@@ -133,10 +133,10 @@ pub empty-sound : T (sound empty)
 unfolding sound room
 empty-sound = tt
 
-pub session-numbers : (ms : List Message) (s : ℕ) → numbers s (events empty ms) ≡ upFrom 1 (lastOf (after empty ms) s)
+pub session-numbers : (ms : List Message) (s : ℕ) → numbers s (events empty ms) ≡ upFrom 1 (lastOf (tableAfter empty ms) s)
 session-numbers ms s =
     let c = session-counted empty ms s empty-sound in
     let z = none-yet stripeCount s in
     let from : lastOf empty s + 1 ≡ 1 = omega arith in
-    let many : c .k ≡ lastOf (after empty ms) s = let e = c .last in omega arith in
+    let many : c .k ≡ lastOf (tableAfter empty ms) s = let e = c .last in omega arith in
     c .are ∙ ap₂ upFrom from many

@@ -10,9 +10,9 @@ use Rattle.locks.specs.Settle.{Event}
 use Rattle.locks.specs.Serve.{serve}
 
 -- The table after the messages, and their events in order
-abbrev pub after : Table → List Message → Table
-after t [] = t
-after t (m ∷ ms) = after (serve t m .table) ms
+abbrev pub tableAfter : Table → List Message → Table
+tableAfter t [] = t
+tableAfter t (m ∷ ms) = tableAfter (serve t m .table) ms
 
 abbrev pub events : Table → List Message → List Event
 events t [] = []

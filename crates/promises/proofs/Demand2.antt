@@ -29,7 +29,7 @@ use Rattle.locks.specs.Settle.{Event, Settled, grantEvent, revocation, inState,
 use Rattle.locks.specs.Refusals.{refusal}
 use Rattle.locks.specs.Serve.{Outcome, change, answered, accepted, refused, serve}
 use Rattle.locks.specs.Events.{eventLayout, eventFields, eventsSize, eventsOver}
-use Rattle.locks.specs.Session.{after, events, numbers}
+use Rattle.locks.specs.Session.{tableAfter, events, numbers}
 use Rattle.locks.proofs.Served.{change-sound}
 use Rattle.locks.proofs.Sessions.{session-numbers}
 use Rattle.locks.proofs.Walk.{Walked}
@@ -38,7 +38,7 @@ use Rattle.serve.specs.declared.Answer.{Answer}
 use Rattle.serve.specs.Serves.{Leaves}
 use Rattle.gilboreth.specs.Messages.{outcome}
 use Rattle.promises.specs.Session.{Session, done, call}
-use Rattle.promises.specs.Demand2.{Called, Followed, Demand2}
+use Rattle.promises.specs.Demand2.{Called, Goes, Followed, Demand2}
 use Rattle.promises.proofs.Determined.{of-message}
 use Rattle.promises.proofs.Encoding.{blank-bytes}
 use Rattle.promises.proofs.Reached.{buffer, buffer-long}
@@ -91,13 +91,16 @@ distinct (e ∷ es) t =
     let k : Bool = pairs (λ a d. not (eqb a d)) (handles es) in
     and-i (all (λ y. not (eqb (handleOf (e .lock)) (handleOf (y .lock)))) es) (pairs (λ x y. not (eqb (handleOf (x .lock)) (handleOf (y .lock)))) es) (apart e es (and-l p k t)) (distinct es (and-r p k t))
 
--- One call of which the rules' table is X
-module _ (X : Table) (m : Message) (t b : List ℕ) (r : Answer) (u c : List ℕ) (says : tableOf width t ≡ X) (s : soundTableBytes t ≡ true) (h : eventsSize width ≤ length b) (L : Leaves (outcome m t b) t b r u c) where
+-- One call on sound bytes, which say the table X
+module _ (m : Message) (t b : List ℕ) (r : Answer) (u c : List ℕ) (s : soundTableBytes t ≡ true) (h : eventsSize width ≤ length b) (L : Leaves (outcome m t b) t b r u c) where
+  abbrev X : Table
+  X = tableOf width t
+
   q : T (sound X)
-  q = subst (λ (Y : Table). T (sound Y)) says (bytes-sound t s)
+  q = bytes-sound t s
 
   K : Leaves (serve X m) t b r u c
-  K = subst (λ (o : Outcome). Leaves o t b r u c) (outcome-is m t b s h ∙ ap (λ (Y : Table). serve Y m) says) L
+  K = subst (λ (o : Outcome). Leaves o t b r u c) (outcome-is m t b s h) L
 
   O : Once (serve X m .events)
   O = serve-once X m q
@@ -129,10 +132,10 @@ module _ (X : Table) (m : Message) (t b : List ℕ) (r : Answer) (u c : List ℕ
 
   pub called : Called X m b r u c
   called =
-      let F : Follows (serve (tableOf width t) m .table) u = follows m t b r u c s h L in
+      let F : Follows (serve X m .table) u = follows m t b r u c s h L in
       record {
         answer = K .answer;
-        table = F .says ∙ ap (λ (Y : Table). serve Y m .table) says;
+        table = F .says;
         events = decoded;
         beyond = beyond;
         long = buffer-kept;
@@ -143,18 +146,21 @@ module _ (X : Table) (m : Message) (t b : List ℕ) (r : Answer) (u c : List ℕ
         fair = λ e. serve-fair X m q (eq→eqb (refusal X m) 0 (sym (served-hit X m) ∙ e));
       }
 
+anywhere : (t : List ℕ) → soundTableBytes t ≡ true → Goes t (tableOf width t)
+anywhere t s m b r u c h L = called m t b r u c s h L
+
 follow : (ms : List Message) (es : List Event) (t : List ℕ) → Session (replicate (tableSize width) 0) ms es t → Followed ms es t
 follow ms es t S =
     let F = session-follows S zeros-sound in
     let zero = zeros-empty (tableSize width) in
-    let says : tableOf width t ≡ after empty ms = F .says ∙ ap (λ (X : Table). after X ms) zero in
+    let says : tableOf width t ≡ tableAfter empty ms = F .says ∙ ap (λ (X : Table). tableAfter X ms) zero in
     let same : es ≡ events empty ms = session-events S zeros-sound ∙ ap (λ (X : Table). events X ms) zero in
     record {
       table = says;
       sound = F .sound;
       events = same;
       numbered = λ s. ap (numbers s) same ∙ session-numbers ms s;
-      next = λ m b r u c h L. called (after empty ms) m t b r u c says (F .sound) h L;
+      next = subst (Goes t) says (anywhere t (F .sound));
     }
 
 -- Demand 1 gives each message an outcome, whatever table the one before it left
@@ -166,4 +172,4 @@ sessions (m ∷ ms) t h =
     (outcome m t buffer .events ++ r .0, r .1, call {b = buffer} (let e = buffer-long in omega arith) (P .meets .0) (r .2))
 
 pub demand2 : Demand2
-demand2 = record { sessions = λ ms. sessions ms (replicate (tableSize width) 0) (blank-bytes (tableSize width)); follow = follow }
+demand2 = record { anywhere = anywhere; sessions = λ ms. sessions ms (replicate (tableSize width) 0) (blank-bytes (tableSize width)); follow = follow }

@@ -51,7 +51,7 @@ shown-is X m b r u c C =
 prints : {t : List ℕ} {ms : List Message} {ls : List (List ℕ)} → Prints t ms ls → soundTableBytes t ≡ true → ls ≡ session (tableOf width t) ms
 prints done s = refl
 prints (call {t = t} {u = u} {b = b} {c = c} {m = m} {ms = ms} {r = r} {ls = ls} h L P) s =
-    let C = called (tableOf width t) m t b r u c refl s h L in
+    let C = called m t b r u c s h L in
     ap₂ (λ (x y : List (List ℕ)). x ++ y) (shown-is (tableOf width t) m b r u c C) (prints P (C .sound) ∙ ap (λ (X : Table). session X ms) (C .table))
 
 -- there are such calls

@@ -9,7 +9,7 @@ use Rattle.common.specs.Counters.{width}
 use Rattle.common.specs.Tests.{upFrom}
 use Rattle.table.specs.Table.{Table, empty, lastOf}
 use Rattle.table.specs.Bytes.{tableSize}
-use Rattle.locks.specs.Session.{after, events, numbers}
+use Rattle.locks.specs.Session.{tableAfter, events, numbers}
 use Rattle.locks.proofs.Sessions.{session-numbers}
 use Rattle.promises.specs.Run.{Piece, Covers, begin, noted}
 use Rattle.promises.specs.Among.{Among}
@@ -30,17 +30,17 @@ pub seam : Seam
 seam ms es v S s i j h k log image run new agree sent finished b p q pin pn pc qin qn qc only =
     demand3 log image run new agree sent finished .under b q (qin, qc, (λ r m c. most r m c))
   where
-    row : numbers s es ≡ upFrom 1 (lastOf (after empty ms) s)
+    row : numbers s es ≡ upFrom 1 (lastOf (tableAfter empty ms) s)
     row =
         ap (numbers s) (session-events S zeros-sound)
         ∙ ap (λ (x : Table). numbers s (events x ms)) (zeros-empty (tableSize width))
         ∙ session-numbers ms s
 
-    last : j < lastOf (after empty ms) s
-    last = let e = ap length row ∙ row-length 1 (lastOf (after empty ms) s) in omega arith
+    last : j < lastOf (tableAfter empty ms) s
+    last = let e = ap length row ∙ row-length 1 (lastOf (tableAfter empty ms) s) in omega arith
 
-    at : (n : ℕ) → n < lastOf (after empty ms) s → numberAt s es n ≡ 1 + n
-    at n l = ap (λ (l : List ℕ). getD l n 0) row ∙ row-at 1 (lastOf (after empty ms) s) n l
+    at : (n : ℕ) → n < lastOf (tableAfter empty ms) s → numberAt s es n ≡ 1 + n
+    at n l = ap (λ (l : List ℕ). getD l n 0) row ∙ row-at 1 (lastOf (tableAfter empty ms) s) n l
 
     most : (r : Piece) → Among r (noted (begin log image) run) → Covers r b → r .number ≤ q .number
     most r m c =

@@ -21,7 +21,7 @@ use Rattle.locks.specs.declared.Message.{Message}
 use Rattle.locks.specs.Settle.{Event, settle}
 use Rattle.locks.specs.Refusals.{refusal}
 use Rattle.locks.specs.Serve.{Outcome, change, answered, accepted, refused, serve}
-use Rattle.locks.specs.Session.{after, events}
+use Rattle.locks.specs.Session.{tableAfter, events}
 use Rattle.locks.specs.Events.{eventsSize}
 use Rattle.locks.proofs.Served.{serve-sound}
 use Rattle.locks.proofs.Sessions.{empty-sound}
@@ -81,11 +81,11 @@ follows m t b r u c s h L = go (eqb (o .refusal) 0) refl
         record { says = ap (tableOf width) same ∙ sym (refused-same (tableOf width t) m e); sound = ap soundTableBytes same ∙ s }
 
 -- A session of the entries is one of the rules
-pub session-follows : {t v : List ℕ} {ms : List Message} {es : List Event} → Session t ms es v → soundTableBytes t ≡ true → Follows (after (tableOf width t) ms) v
+pub session-follows : {t v : List ℕ} {ms : List Message} {es : List Event} → Session t ms es v → soundTableBytes t ≡ true → Follows (tableAfter (tableOf width t) ms) v
 session-follows done s = record { says = refl; sound = s }
 session-follows (call {t = t} {u = u} {v = v} {b = b} {c = c} {m = m} {ms = ms} {r = r} h L S) s =
     let F = follows m t b r u c s h L in
-    subst (λ (x : Table). Follows (after x ms) v) (F .says) (session-follows S (F .sound))
+    subst (λ (x : Table). Follows (tableAfter x ms) v) (F .says) (session-follows S (F .sound))
 
 pub session-events : {t v : List ℕ} {ms : List Message} {es : List Event} → Session t ms es v → soundTableBytes t ≡ true → es ≡ events (tableOf width t) ms
 session-events done s = refl

@@ -21,7 +21,7 @@ use Rattle.locks.specs.Conflicts.{against, obstacle}
 use Rattle.locks.specs.Settle.{Event, Settled, grantEvent, revocation, inState, grant, turns, presses}
 use Rattle.locks.specs.Serve.{change, serve}
 use Rattle.locks.specs.Events.{eventLayout, eventFields, eventsSize}
-use Rattle.locks.specs.Session.{after, events, numbers}
+use Rattle.locks.specs.Session.{tableAfter, events, numbers}
 use Rattle.serve.specs.declared.Answer.{Answer}
 use Rattle.serve.specs.Serves.{Leaves}
 use Rattle.gilboreth.specs.Messages.{outcome}
@@ -78,18 +78,23 @@ pub record Called (X : Table) (m : Message) (b : List ℕ) (r : Answer) (u c : L
   pub order : (gs rs : List Lock) × (serve X m .events ≡ map grantEvent gs ++ map revocation rs) × Rising gs × Rising rs
   pub fair : serve X m .refusal ≡ 0 → Fair X m
 
+-- Any call on the bytes t, lent an event buffer that is long enough, goes as the rules say of the table X
+abbrev pub Goes : List ℕ → Table → Type 0
+Goes t X =
+    (m : Message) (b : List ℕ) (r : Answer) (u c : List ℕ) → eventsSize width ≤ length b → Leaves (outcome m t b) t b r u c → Called X m b r u c
+
 -- After a session of the entries: its table and events are the rules', a stripe's write grants are numbered 1, 2, 3, .., and so goes any call that
 -- comes next. Each call of a session comes next after those before it
 pub record Followed (ms : List Message) (es : List Event) (t : List ℕ) : Type 0 where
-  pub table : tableOf width t ≡ after empty ms
+  pub table : tableOf width t ≡ tableAfter empty ms
   pub sound : soundTableBytes t ≡ true
   pub events : es ≡ events empty ms
-  pub numbered : (s : ℕ) → numbers s es ≡ upFrom 1 (lastOf (after empty ms) s)
-  pub next :
-      (m : Message) (b : List ℕ) (r : Answer) (u c : List ℕ) → eventsSize width ≤ length b → Leaves (outcome m t b) t b r u c
-      → Called (after empty ms) m b r u c
+  pub numbered : (s : ℕ) → numbers s es ≡ upFrom 1 (lastOf (tableAfter empty ms) s)
+  pub next : Goes t (tableAfter empty ms)
 
 pub record Demand2 : Type 0 where
+  -- on every sound table, wherever it comes from, settled or not
+  pub anywhere : (t : List ℕ) → soundTableBytes t ≡ true → Goes t (tableOf width t)
   -- "A session is a list of messages": every list of messages is one
   pub sessions : (ms : List Message) → (es : List Event) × (t : List ℕ) × Session (replicate (tableSize width) 0) ms es t
   pub follow : (ms : List Message) (es : List Event) (t : List ℕ) → Session (replicate (tableSize width) 0) ms es t → Followed ms es t
