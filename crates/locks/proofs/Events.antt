@@ -36,16 +36,16 @@ use Rattle.locks.proofs.Served.{change-sound}
 turned : (a b : Lock) → T (other a b) → T (other b a)
 turned a b o = not-T (eqb (handleOf b) (handleOf a)) (λ k. T-not (eqb (handleOf a) (handleOf b)) o (eq→eqb (handleOf a) (handleOf b) (sym (eqb→eq (handleOf b) (handleOf a) k))))
 
--- Without canceling the matrix is the same both ways: a request x that w does not conflict with does not conflict with w granted in state 1
-pr-passes : T (conflict 1 1 1) → ⊥
+-- Without canceling the matrix is the same both ways: a request x that w does not conflict with does not conflict with w once it is granted
+pr-passes : (s : ℕ) → T (conflict 1 1 s) → ⊥
 unfolding conflict
-pr-passes t = t
+pr-passes s t = t
 
-not-both : (w x : Lock) (l n issued : ℕ) (lasts : List ℕ) → Valid issued lasts w → Valid issued lasts x → T (not (against w l x)) → T (not (presses (given w granted n l) x))
-not-both w x l n issued lasts v u c =
-    not-T (presses (given w granted n l) x)
+pub not-both : (w x : Lock) (s l n issued : ℕ) (lasts : List ℕ) → Valid issued lasts w → Valid issued lasts x → T (not (against w l x)) → T (not (presses (given w s n l) x))
+not-both w x s l n issued lasts v u c =
+    not-T (presses (given w s n l) x)
     (λ t.
-    let a : T (conflicts x (given w granted n l)) = search (and-r) in
+    let a : T (conflicts x (given w s n l)) = search (and-r) in
     go (passes (w .mode) (x .mode) (x .state) (v .mode-lo) (v .mode-hi) (u .mode-lo) (u .mode-hi)
     (not-T (conflict (w .mode) (x .mode) (x .state))
     (λ z.
@@ -56,8 +56,8 @@ not-both w x l n issued lasts v u c =
     T-not (against w l x) c (search (and-l, and-r, and-i) depth 7))))
     (eqb→eq (x .state) 0 (search (and-l))) (search (and-r)))
   where
-    go : Passes (w .mode) (x .mode) (x .state) → x .state ≡ 0 → T (conflict (x .mode) (w .mode) 1) → ⊥
-    go (inl p) e h = pr-passes (subst₂ (λ (a b : ℕ). T (conflict a b 1)) (p .1) (p .0) h)
+    go : Passes (w .mode) (x .mode) (x .state) → x .state ≡ 0 → T (conflict (x .mode) (w .mode) s) → ⊥
+    go (inl p) e h = pr-passes s (subst₂ (λ (a b : ℕ). T (conflict a b s)) (p .1) (p .0) h)
     go (inr p) e h = omega arith
 
 -- The turn of w
@@ -80,7 +80,7 @@ module _ (issued : ℕ) (lasts : List ℕ) (before : List Lock) (w : Lock) (afte
       (λ u. nobody (presses one) (before ++ (one ∷ after))
       (all-put (λ x. not (presses one x)) before one after tt
       (all-imp2 (valid issued lasts) (λ r. not (against w (widest w eof table) r)) (λ x. not (presses one x))
-      (λ x a b. not-both w x (widest w eof table) (nextNumber lasts w) issued lasts (w-valid-here issued lasts before w after S t) (valid→ issued lasts x a) b)
+      (λ x a b. not-both w x granted (widest w eof table) (nextNumber lasts w) issued lasts (w-valid-here issued lasts before w after S t) (valid→ issued lasts x a) b)
       (before ++ after) (all-out (valid issued lasts) before w after (S .each))
       (all-out (λ r. not (against w (widest w eof table) r)) before w after (widened-clear issued lasts before w after S t u)))))
     where

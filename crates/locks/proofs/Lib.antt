@@ -7,5 +7,9 @@ pub mod Served
 pub mod Events
 pub mod Revoked
 pub mod Waits
+pub mod Milder
+pub mod Overtaken
 pub mod Greatest
+pub mod Rows
 pub mod Sessions
+pub mod Handles

@@ -18,10 +18,10 @@ use Rattle.locks.specs.Conflicts.{other, against, conflicts, obstacle}
 use Rattle.locks.specs.Settle.{inState, presses, wanted, revoked}
 
 -- x is granted where it is wanted
-is-granted : (rs : List Lock) (x : Lock) → T (wanted rs x) → x .state ≡ granted
+pub is-granted : (rs : List Lock) (x : Lock) → T (wanted rs x) → x .state ≡ granted
 is-granted rs x t = eqb→eq (x .state) granted (and-l (eqb (x .state) granted) (any (presses x) rs) t)
 
-same-matrix : (a m : ℕ) → conflict a m asked ≡ conflict a m granted
+pub same-matrix : (a m : ℕ) → conflict a m asked ≡ conflict a m granted
 unfolding conflict
 same-matrix a m = refl
 

@@ -1,16 +1,16 @@
--- Over any session the table stays sound, and the write grants of a stripe are numbered 1, 2, 3, ..: each takes the stripe's last number plus one.
+-- Over any session: the table stays sound, each waiting request has an obstacle, none is overtaken; and the write grants of a stripe are numbered
+-- 1, 2, 3, ..: each takes the stripe's last number plus one.
 use Prim.Native.Nat.{ℕ, zero, suc, _+_, _<_}
 use native.Mathlib.Omega.{arith}
-use native.Mathlib.Nat.{add-zero, add-assoc}
 use mathlib.Core.Bool.{Bool, true, false, _&&_, cond}
 use mathlib.Core.List.{List, [], _∷_, _++_, map, map-append, append-nil}
 use mathlib.Core.Path.{_≡_, refl, sym, ap, ap₂, subst, _∙_}
 use lib.Dec.{T, eqb, eqb→eq}
 use lib.ListN.{length, getD, replicate}
 use Rattle.common.specs.Ranges.{eof}
-use Rattle.common.specs.Tests.{any, keep, upFrom}
+use Rattle.common.specs.Tests.{all, any, keep, upFrom}
 use Rattle.common.proofs.Bools.{and-l, and-r, by-cond}
-use Rattle.common.proofs.Listed.{keep-append, upFrom-add}
+use Rattle.common.proofs.Listed.{keep-append}
 use Rattle.modes.specs.Codes.{granted, asked, canceling}
 use Rattle.table.specs.declared.Lock.{Lock}
 use Rattle.table.specs.Table.{Table, empty, stripeCount, numberOf, writes, lastOf}
@@ -27,36 +27,45 @@ use Rattle.locks.proofs.Numbering.{next-is, lasts-at}
 use Rattle.locks.proofs.Turn.{w-valid-here}
 use Rattle.locks.proofs.Walk.{OnGrant, OnWait, walk}
 use Rattle.locks.proofs.Served.{change-sound, serve-sound}
+use Rattle.locks.proofs.Waits.{stuck, serve-stuck}
+use Rattle.locks.proofs.Overtaken.{inOrder, serve-in-order}
+use Rattle.locks.proofs.Rows.{Row, row-none, row-join, row-from-one}
+
+pub empty-sound : T (sound empty)
+unfolding sound room
+empty-sound = tt
 
 pub session-sound : (t : Table) (ms : List Message) → T (sound t) → T (sound (tableAfter t ms))
 session-sound t [] s = s
 session-sound t (m ∷ ms) s = session-sound (serve t m .table) ms (serve-sound t m s)
 
--- k numbers were taken after `base`, in a row
-pub record Counted (s base : ℕ) (lasts : List ℕ) (es : List Event) : Type 0 where
-  pub k : ℕ
-  pub are : numbers s es ≡ upFrom (base + 1) k
-  pub last : getD lasts s 0 ≡ base + k
+-- what each message keeps holds after a session from the empty table
+session-keeps : (P : Table → Type 0) → ((t : Table) (m : Message) → T (sound t) → P t → P (serve t m .table)) → (t : Table) (ms : List Message) → T (sound t) → P t → P (tableAfter t ms)
+session-keeps P f t [] s p = p
+session-keeps P f t (m ∷ ms) s p = session-keeps P f (serve t m .table) ms (serve-sound t m s) (f t m s p)
+
+pub session-stuck : (ms : List Message) → T (all (stuck (tableAfter empty ms .locks)) (tableAfter empty ms .locks))
+session-stuck ms = session-keeps (λ t. T (all (stuck (t .locks)) (t .locks))) serve-stuck empty ms empty-sound tt
+
+pub session-in-order : (ms : List Message) → T (inOrder (tableAfter empty ms .locks))
+session-in-order ms = session-keeps (λ t. T (inOrder (t .locks))) serve-in-order empty ms empty-sound tt
+
+-- Numbers: those of a stripe's write grants, where its last number was `base`
+abbrev Counted : ℕ → ℕ → List ℕ → List Event → Type 0
+Counted s base lasts es = Row base (getD lasts s 0) (numbers s es)
 
 numbers-append : (s : ℕ) (es fs : List Event) → numbers s (es ++ fs) ≡ numbers s es ++ numbers s fs
 numbers-append s es fs = ap (map (λ e. numberOf (e .lock))) (keep-append (writeGrant s) es fs) ∙ map-append (λ e. numberOf (e .lock)) (keep (writeGrant s) es) (keep (writeGrant s) fs)
 
 -- one row after the other
-joined : (s base : ℕ) (lasts lasts′ : List ℕ) (es fs : List Event) → (c : Counted s base lasts es) → Counted s (getD lasts s 0) lasts′ fs → Counted s base lasts′ (es ++ fs)
+joined : (s base : ℕ) (lasts lasts′ : List ℕ) (es fs : List Event) → Counted s base lasts es → Counted s (getD lasts s 0) lasts′ fs → Counted s base lasts′ (es ++ fs)
 joined s base lasts lasts′ es fs c d =
-    record {
-      k = c .k + d .k;
-      are = numbers-append s es fs ∙ ap₂ (λ (x y : List ℕ). x ++ y) (c .are) (d .are ∙ ap (λ (a : ℕ). upFrom a (d .k)) (ap (λ (a : ℕ). a + 1) (c .last) ∙ (omega arith))) ∙ sym (upFrom-add (base + 1) (c .k) (d .k));
-      last = let p = c .last in let q = d .last in omega arith;
-    }
-
-nothing : (s : ℕ) (lasts : List ℕ) → Counted s (getD lasts s 0) lasts []
-nothing s lasts = record { k = 0; are = refl; last = sym (add-zero (getD lasts s 0)) }
+    subst (λ (l : List ℕ). Row base (getD lasts′ s 0) l) (sym (numbers-append s es fs)) (row-join base (getD lasts s 0) (getD lasts′ s 0) (numbers s es) (numbers s fs) c d)
 
 -- the grant of w, in either state
 one : (s : ℕ) (lasts : List ℕ) (w : Lock) (state l : ℕ) → w .stripe < length lasts
     → Counted s (getD lasts s 0) (lastsAfter lasts w) (grantEvent (given w state (nextNumber lasts w) l) ∷ [])
-one s lasts w state l h = record { k = cond own 1 0; are = row own number; last = lasts-at lasts w h s }
+one s lasts w state l h = record { many = cond own 1 0; are = row own number; ends = lasts-at lasts w h s }
   where
     own : Bool
     own = writes w && eqb (w .stripe) s
@@ -85,13 +94,11 @@ no-number s (r ∷ rs) = no-number s rs
 settle-counted : (t : Table) (s : ℕ) → Sound (t .issued) (t .lasts) (t .locks) → Counted s (lastOf t s) (settle t .table .lasts) (settle t .events)
 unfolding settle
 settle-counted t s S =
-    let c = walk (λ lasts before rest es. Counted s (lastOf t s) lasts es) t on by S (nothing s (t .lasts)) .law in
+    let c = walk (λ lasts before rest es. Counted s (lastOf t s) lasts es) t on by S (row-none (lastOf t s)) .law in
     let rs : List Lock = turns (length (t .locks)) t .table .locks in
-    record {
-      k = c .k;
-      are = numbers-append s (turns (length (t .locks)) t .events) (revocations rs) ∙ ap₂ (λ (x y : List ℕ). x ++ y) (c .are) (no-number s (keep (wanted rs) rs)) ∙ append-nil (upFrom (lastOf t s + 1) (c .k));
-      last = c .last;
-    }
+    let es : List Event = turns (length (t .locks)) t .events in
+    subst (λ (l : List ℕ). Row (lastOf t s) (getD (turns (length (t .locks)) t .table .lasts) s 0) l)
+    (sym (numbers-append s es (revocations rs) ∙ ap (λ (l : List ℕ). numbers s es ++ l) (no-number s (keep (wanted rs) rs)) ∙ append-nil (numbers s es))) c
   where
     on : OnGrant (t .issued) (λ lasts before rest es. Counted s (lastOf t s) lasts es)
     on lasts before w rest es S f c =
@@ -115,10 +122,10 @@ serve-counted t m s q =
     (λ e.
     let u : Table = change t m in
     subst (λ (l : List ℕ). Counted s (getD l s 0) (settle u .table .lasts) (settle u .events)) (same-lasts t m) (settle-counted u s (change-sound t m e (sound→ t q))))
-    (λ e. nothing s (t .lasts))
+    (λ e. row-none (lastOf t s))
 
 pub session-counted : (t : Table) (ms : List Message) (s : ℕ) → T (sound t) → Counted s (lastOf t s) (tableAfter t ms .lasts) (events t ms)
-session-counted t [] s q = nothing s (t .lasts)
+session-counted t [] s q = row-none (lastOf t s)
 session-counted t (m ∷ ms) s q =
     joined s (lastOf t s) (serve t m .table .lasts) (tableAfter (serve t m .table) ms .lasts) (serve t m .events) (events (serve t m .table) ms)
     (serve-counted t m s q) (session-counted (serve t m .table) ms s (serve-sound t m q))
@@ -129,14 +136,7 @@ none-yet zero s = refl
 none-yet (suc n) zero = refl
 none-yet (suc n) (suc s) = none-yet n s
 
-pub empty-sound : T (sound empty)
-unfolding sound room
-empty-sound = tt
-
 pub session-numbers : (ms : List Message) (s : ℕ) → numbers s (events empty ms) ≡ upFrom 1 (lastOf (tableAfter empty ms) s)
 session-numbers ms s =
-    let c = session-counted empty ms s empty-sound in
-    let z = none-yet stripeCount s in
-    let from : lastOf empty s + 1 ≡ 1 = omega arith in
-    let many : c .k ≡ lastOf (tableAfter empty ms) s = let e = c .last in omega arith in
-    c .are ∙ ap₂ upFrom from many
+    row-from-one (lastOf (tableAfter empty ms) s) (numbers s (events empty ms))
+    (subst (λ (n : ℕ). Row n (lastOf (tableAfter empty ms) s) (numbers s (events empty ms))) (none-yet stripeCount s) (session-counted empty ms s empty-sound))

@@ -25,6 +25,13 @@ use Rattle.locks.specs.Settle.{given, nextNumber, lastsAfter, widest, gr
 use Rattle.locks.proofs.Widening.{clear, at-most, at-least}
 use Rattle.locks.proofs.Numbering.{next-is, lasts-length, lasts-at, lasts-own}
 
+-- What hinders w: a held lock that conflicts with it, and an earlier record that does
+by-holder : (w r : Lock) → T (held r) → T (conflicts w r) → T (obstacle w r)
+by-holder w r h c = search (and-i, or-l)
+
+pub by-elder : (w r : Lock) → T (ltb (handleOf r) (handleOf w)) → T (conflicts w r) → T (obstacle w r)
+by-elder w r h c = and-i (held r || ltb (handleOf r) (handleOf w)) (conflicts w r) (or-r (held r) (ltb (handleOf r) (handleOf w)) h) c
+
 pub is-held : (s : ℕ) → 1 ≤ s → T (not (eqb s 0))
 is-held s h = not-T (eqb s 0) (λ z. let e = eqb→eq s 0 z in omega arith)
 
@@ -162,16 +169,14 @@ module _ (issued : ℕ) (lasts : List ℕ) (before : List Lock) (w : Lock) (afte
 
 -- The turn of w: what its tests say of each record
 held-free : (w r : Lock) → T (not (obstacle w r)) → T (Free w (w .last) r)
-held-free w r o =
-    imp-i (held r) (not (conflicts w r))
-    (λ h. not-T (conflicts w r) (λ c. T-not (obstacle w r) o (and-i (held r || ltb (handleOf r) (handleOf w)) (conflicts w r) (or-l (held r) (ltb (handleOf r) (handleOf w)) h) c)))
+held-free w r o = imp-i (held r) (not (conflicts w r)) (λ h. not-T (conflicts w r) (λ c. T-not (obstacle w r) o (by-holder w r h c)))
 
 no-conflict : (w r : Lock) → T (not (obstacle w r)) → T (not (hurries w r)) → T (not (conflicts w r))
 no-conflict w r o u = not-T (conflicts w r) (λ c. go c (either (waits r)) (either (ltb (handleOf r) (handleOf w))))
   where
     go : T (conflicts w r) → T (waits r) ⊎ T (held r) → T (ltb (handleOf r) (handleOf w)) ⊎ T (not (ltb (handleOf r) (handleOf w))) → ⊥
-    go c (inr h) k = T-not (obstacle w r) o (and-i (held r || ltb (handleOf r) (handleOf w)) (conflicts w r) (or-l (held r) (ltb (handleOf r) (handleOf w)) h) c)
-    go c (inl h) (inl k) = T-not (obstacle w r) o (and-i (held r || ltb (handleOf r) (handleOf w)) (conflicts w r) (or-r (held r) (ltb (handleOf r) (handleOf w)) k) c)
+    go c (inr h) k = T-not (obstacle w r) o (by-holder w r h c)
+    go c (inl h) (inl k) = T-not (obstacle w r) o (by-elder w r k c)
     go c (inl h) (inr k) =
         T-not (hurries w r) u
         (and-i (waits r && ltb (handleOf w) (handleOf r)) (conflicts w r)
@@ -188,12 +193,12 @@ module _ (issued : ℕ) (lasts : List ℕ) (before : List Lock) (w : Lock) (afte
   -- when w is granted: it waits, no record hinders it, and where none hurries it none conflicts
   module _ (S : Sound issued lasts table) (t : T (free table w)) where
     pub w-waits : T (waits w)
-    w-waits = and-l (waits w) (not (any (obstacle w) table)) t
+    w-waits = search (and-l)
 
     pub w-valid-here : Valid issued lasts w
     w-valid-here = valid→ issued lasts w (all-at (valid issued lasts) before w after (S .each))
 
-    unhindered : T (all (λ r. not (obstacle w r)) table)
+    pub unhindered : T (all (λ r. not (obstacle w r)) table)
     unhindered = none (obstacle w) table (and-r (waits w) (not (any (obstacle w) table)) t)
 
     pub quiet : T (not (any (hurries w) table)) → T (all (λ r. not (conflicts w r)) table)

@@ -102,3 +102,10 @@ serve-calm t m s e =
     let u : Table = change t m in
     subst (λ (o : Outcome). Calm (o .table .locks)) (sym (cond-true (eqb (refusal t m) 0) (accepted (answered t m) (settle u)) (refused t (refusal t m)) e))
     (record { waiters = settle-stuck u (change-sound t m e (sound→ t s)); unwanted = none-wanted (turns (length (u .locks)) u .table .locks) })
+
+-- any message keeps it
+pub serve-stuck : (t : Table) (m : Message) → T (sound t) → T (all (stuck (t .locks)) (t .locks)) → T (all (stuck (serve t m .table .locks)) (serve t m .table .locks))
+unfolding serve
+serve-stuck t m s k =
+    by-cond (λ (o : Outcome). T (all (stuck (o .table .locks)) (o .table .locks))) (eqb (refusal t m) 0) (accepted (answered t m) (settle (change t m))) (refused t (refusal t m))
+    (λ e. settle-stuck (change t m) (change-sound t m e (sound→ t s))) (λ e. k)
