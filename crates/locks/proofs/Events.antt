@@ -1,10 +1,10 @@
 -- The events of a call: grants in rising handle, then revocations in rising handle, each record at most once, so at most 256. The thought: a lock
 -- that is granted in state 1 conflicts with no waiting request, then or later in the call, so it is not asked in the same call.
-use Prim.Native.Nat.{ℕ, _+_, _≤_, _<_, zero-le}
+use Prim.Native.Nat.{ℕ, _+_, _≤_, zero-le}
 use native.Mathlib.Omega.{arith}
-use mathlib.Core.Bool.{Bool, true, false, not, _&&_, cond}
+use mathlib.Core.Bool.{Bool, true, not, _&&_}
 use mathlib.Core.List.{List, [], _∷_, _++_, map, map-map, map-append, append-nil}
-use mathlib.Core.Logic.{_⊎_, inl, inr}
+use mathlib.Core.Logic.{inl, inr}
 use mathlib.Core.Path.{_≡_, refl, sym, ap, ap₂, subst, subst₂, _∙_}
 use lib.Dec.{T, T-not, not-T, ltb, eqb, ltb→lt, eqb→eq}
 use lib.ListN.{length, length-append, length-map}
@@ -60,16 +60,17 @@ not-both w x s l n issued lasts v u c =
     go (inl p) e h = pr-passes s (subst₂ (λ (a b : ℕ). T (conflict a b s)) (p .1) (p .0) h)
     go (inr p) e h = omega arith
 
+-- What is granted is held
+pub grant-held : (lasts : List ℕ) (rs : List Lock) (w : Lock) → T (held (grant lasts rs w))
+unfolding grant
+grant-held lasts rs w =
+    by-cond (λ (g : Lock). T (held g)) (any (hurries w) rs)
+    (given w canceling (nextNumber lasts w) (w .last)) (given w granted (nextNumber lasts w) (widest w eof rs)) (λ u. tt) (λ u. tt)
+
 -- The turn of w
 module _ (issued : ℕ) (lasts : List ℕ) (before : List Lock) (w : Lock) (after : List Lock) (S : Sound issued lasts (before ++ (w ∷ after))) where
   abbrev table : List Lock
   table = before ++ (w ∷ after)
-
-  pub grant-held : T (held (grant lasts table w))
-  unfolding grant
-  grant-held =
-      by-cond (λ (g : Lock). T (held g)) (any (hurries w) table)
-      (given w canceling (nextNumber lasts w) (w .last)) (given w granted (nextNumber lasts w) (widest w eof table)) (λ u. tt) (λ u. tt)
 
   -- what it becomes is not asked
   pub unwanted : T (free table w) → T (not (wanted (before ++ (grant lasts table w ∷ after)) (grant lasts table w)))
@@ -114,7 +115,7 @@ spare t S = walk Spared t on by S (record { grants = []; are = refl; among = sub
           calm =
               rw append-snoc
               (all-join (λ r. not (wanted (before ++ (g ∷ after)) r)) (P .grants) (g ∷ [])
-              (all-imp (λ r. not (wanted (before ++ (w ∷ after)) r)) (λ r. not (wanted (before ++ (g ∷ after)) r)) (less-wanted (t .issued) lasts before w after S g (grant-held (t .issued) lasts before w after S)) (P .grants) (P .calm))
+              (all-imp (λ r. not (wanted (before ++ (w ∷ after)) r)) (λ r. not (wanted (before ++ (g ∷ after)) r)) (less-wanted (t .issued) lasts before w after S g (grant-held lasts (before ++ (w ∷ after)) w)) (P .grants) (P .calm))
               (and-i (not (wanted (before ++ (g ∷ after)) g)) true (unwanted (t .issued) lasts before w after S f) tt));
         }
 

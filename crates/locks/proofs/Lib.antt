@@ -6,6 +6,7 @@ pub mod Changes
 pub mod Served
 pub mod Events
 pub mod Revoked
+pub mod Places
 pub mod Waits
 pub mod Milder
 pub mod Overtaken

@@ -14,7 +14,7 @@ use Rattle.common.proofs.Order.{below}
 use Rattle.modes.specs.Codes.{asked, canceling, nbw, bw, pw}
 use Rattle.modes.specs.Conflict.{never, always, unless, matrix, entry, bars, conflict}
 use Rattle.table.specs.declared.Lock.{Lock}
-use Rattle.table.specs.Table.{waits}
+use Rattle.table.specs.Table.{handleOf, waits}
 use Rattle.locks.specs.Conflicts.{other, conflicts}
 use Rattle.locks.specs.Settle.{inState, wanted, revoked}
 use Rattle.locks.specs.Refusals.{mayAcknowledge, mayDowngrade}
@@ -22,12 +22,13 @@ use Rattle.locks.specs.Serve.{downgraded}
 use Rattle.locks.proofs.Revoked.{is-granted, same-matrix}
 
 pub record Milder (r r′ : Lock) : Type 0 where
+  pub handle-is : handleOf r′ ≡ handleOf r
   pub waits-is : waits r′ ≡ waits r
   pub left : T (waits r′) → r′ ≡ r
   pub less : (w : Lock) → T (conflicts w r′) → T (conflicts w r)
 
 unchanged : (r : Lock) → Milder r r
-unchanged r = record { waits-is = refl; left = λ t. refl; less = λ w t. t }
+unchanged r = record { handle-is = refl; waits-is = refl; left = λ t. refl; less = λ w t. t }
 
 -- the same stripe, a byte in common
 abbrev meets : Lock → Lock → Bool
@@ -37,6 +38,7 @@ meets w r = other w r && (eqb (w .stripe) (r .stripe) && overlap (w .first) (w .
 moved : (s : ℕ) (r : Lock) → 1 ≤ r .state → 1 ≤ s → ((a : ℕ) → T (conflict a (r .mode) s) → T (conflict a (r .mode) (r .state))) → Milder r (inState s r)
 moved s r h k f =
     record {
+      handle-is = refl;
       waits-is = ne-eqb s 0 (omega arith) ∙ sym (ne-eqb (r .state) 0 (omega arith));
       left = λ t. absurd (let e = eqb→eq s 0 t in let z : ⊥ = omega arith in z);
       less = λ w t. and-i (meets w r) (conflict (w .mode) (r .mode) (r .state)) (and-l (meets w r) (conflict (w .mode) (r .mode) s) t) (f (w .mode) (and-r (meets w r) (conflict (w .mode) (r .mode) s) t));
@@ -87,6 +89,7 @@ downgraded-milder c h r = by-cond (Milder r) (mayDowngrade c h r) (downgraded r)
     lowered : r .state ≡ canceling → bw ≤ r .mode → r .mode ≤ pw → Milder r (downgraded r)
     lowered e lo hi =
         record {
+          handle-is = refl;
           waits-is = refl;
           left = λ t. absurd (let z = eqb→eq (r .state) 0 t in let y : ⊥ = omega arith in y);
           less = λ w t.

@@ -8,7 +8,7 @@ use lib.Dec.{T, T-not, not-T, eqb, ltb}
 use lib.ListN.{length}
 use lib.Seq.{append-snoc}
 use Rattle.common.specs.Ranges.{eof}
-use Rattle.common.specs.Tests.{all, any, keep, pairs}
+use Rattle.common.specs.Tests.{all, any, pairs}
 use Rattle.common.proofs.Bools.{and-l, and-r, and-i, by-cond, nand-l, nand-r}
 use Rattle.common.proofs.Listed.{all-imp2, all-of, all-left, pairs-out, pairs-put, pairs-map, pairs-keep, pairs-before}
 use Rattle.modes.specs.Codes.{granted, canceling}
@@ -80,7 +80,7 @@ turns-in-order t S i = walk InOrder t on by S i
         rw append-snoc
         (pairs-put (λ a b. not (overtakes b a)) before g after (pairs-out (λ a b. not (overtakes b a)) before w after i)
         (overtakes-none (t .issued) lasts before w after S f)
-        (all-of (λ r. not (overtakes r g)) (λ r. not-waiting g r (grant-held (t .issued) lasts before w after S)) after))
+        (all-of (λ r. not (overtakes r g)) (λ r. not-waiting g r (grant-held lasts (before ++ (w ∷ after)) w)) after))
 
     by : OnWait (t .issued) InOrder
     by lasts before w after es S f i = rw append-snoc i

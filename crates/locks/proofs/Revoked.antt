@@ -13,7 +13,7 @@ use Rattle.common.proofs.Listed.{any-map, all-map, all-of}
 use Rattle.modes.specs.Codes.{granted, asked}
 use Rattle.modes.specs.Conflict.{conflict}
 use Rattle.table.specs.declared.Lock.{Lock}
-use Rattle.table.specs.Table.{waits, held, handleOf}
+use Rattle.table.specs.Table.{waits, handleOf}
 use Rattle.locks.specs.Conflicts.{other, against, conflicts, obstacle}
 use Rattle.locks.specs.Settle.{inState, presses, wanted, revoked}
 
@@ -40,7 +40,7 @@ against-same rs w x l =
 by-asker : (rs : List Lock) (w x : Lock) → conflicts (revoked rs w) x ≡ conflicts w x
 by-asker rs w x = by-cond (λ (y : Lock). conflicts y x ≡ conflicts w x) (wanted rs w) (inState asked w) w (λ t. refl) (λ t. refl)
 
-handle-same : (rs : List Lock) (x : Lock) → handleOf (revoked rs x) ≡ handleOf x
+pub handle-same : (rs : List Lock) (x : Lock) → handleOf (revoked rs x) ≡ handleOf x
 handle-same rs x = by-cond (λ (y : Lock). handleOf y ≡ handleOf x) (wanted rs x) (inState asked x) x (λ t. refl) (λ t. refl)
 
 pub presses-same : (rs : List Lock) (r x : Lock) → presses r (revoked rs x) ≡ presses r x

@@ -2,8 +2,8 @@
 use Prim.Native.Nat.{ℕ, zero, suc, _+_, _<_}
 use native.Mathlib.Omega.{arith}
 use native.Mathlib.Nat.{add-zero}
-use mathlib.Core.Bool.{Bool, not}
-use mathlib.Core.List.{List, [], _∷_, _++_}
+use mathlib.Core.Bool.{not}
+use mathlib.Core.List.{List, [], _++_}
 use mathlib.Core.Path.{_≡_, refl, sym, ap, ap₂, _∙_}
 use lib.Dec.{T, not-T, eqb, eqb→eq}
 use Rattle.common.specs.Tests.{all, pairs, upFrom}

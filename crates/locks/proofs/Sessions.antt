@@ -4,7 +4,7 @@ use Prim.Native.Nat.{ℕ, zero, suc, _+_, _<_}
 use native.Mathlib.Omega.{arith}
 use mathlib.Core.Bool.{Bool, true, false, _&&_, cond}
 use mathlib.Core.List.{List, [], _∷_, _++_, map, map-append, append-nil}
-use mathlib.Core.Path.{_≡_, refl, sym, ap, ap₂, subst, _∙_}
+use mathlib.Core.Path.{_≡_, refl, sym, ap, subst, _∙_}
 use lib.Dec.{T, eqb, eqb→eq}
 use lib.ListN.{length, getD, replicate}
 use Rattle.common.specs.Ranges.{eof}
@@ -19,7 +19,7 @@ use Rattle.table.proofs.Facts.{Sound, sound→}
 use Rattle.locks.specs.declared.Message.{Message}
 use Rattle.locks.specs.declared.Message.the-variants.{Request, Acknowledge, Downgrade, Release}
 use Rattle.locks.specs.Conflicts.{hurries}
-use Rattle.locks.specs.Settle.{Event, grantEvent, revocation, given, inState, nextNumber, lastsAfter, widest, grant, free, turns, wanted, revocations, settle}
+use Rattle.locks.specs.Settle.{Event, grantEvent, revocation, given, inState, nextNumber, lastsAfter, widest, grant, turns, wanted, revocations, settle}
 use Rattle.locks.specs.Refusals.{refusal}
 use Rattle.locks.specs.Serve.{Outcome, change, answered, accepted, refused, serve}
 use Rattle.locks.specs.Session.{tableAfter, events, writeGrant, numbers}

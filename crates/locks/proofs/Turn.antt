@@ -3,9 +3,9 @@ use Prim.Native.Nat.{ℕ, _+_, _≤_, _<_}
 use native.Mathlib.Omega.{arith}
 use native.Mathlib.Nat.{le-refl, le-trans}
 use mathlib.Core.Bool.{Bool, true, false, not, _&&_, _||_, cond}
-use mathlib.Core.List.{List, [], _∷_, _++_}
+use mathlib.Core.List.{List, _∷_, _++_}
 use mathlib.Core.Logic.{_⊎_, inl, inr}
-use mathlib.Core.Path.{_≡_, refl, sym, ap, _∙_}
+use mathlib.Core.Path.{_≡_, refl, ap, _∙_}
 use lib.Dec.{T, T-not, not-T, ltb, eqb, leb→le, le→leb, ltb→lt, lt→ltb, nltb→le, eqb→eq, lit≤}
 use lib.ListN.{length, getD}
 use Rattle.common.specs.Ranges.{eof}
@@ -17,7 +17,7 @@ use Rattle.modes.specs.Codes.{granted, canceling}
 use Rattle.modes.specs.Conflict.{conflict}
 use Rattle.modes.proofs.Rule.{passes, Passes}
 use Rattle.table.specs.declared.Lock.{Lock}
-use Rattle.table.specs.Table.{handleOf, numberOf, waits, held, writes}
+use Rattle.table.specs.Table.{handleOf, waits, held, writes}
 use Rattle.table.specs.Sound.{valid, differ, share, agree, room, stripes, wants}
 use Rattle.table.proofs.Facts.{Valid, valid→, →valid, still-valid, Clear, Friends, →friends, friends-sym, Sound}
 use Rattle.locks.specs.Conflicts.{other, against, conflicts, obstacle, hurries}

@@ -1,10 +1,10 @@
 -- No lost waiter: after an accepted message each request that still waits has an obstacle. So a waiter is granted in the very call in which its
 -- last obstacle goes. A walk: a request passed by keeps its obstacle, since what is granted later was no obstacle to it.
-use Prim.Native.Nat.{ℕ, _<_}
+use Prim.Native.Nat.{ℕ}
 use native.Mathlib.Omega.{arith}
 use mathlib.Core.Bool.{Bool, true, false, not, _&&_, _||_}
 use mathlib.Core.List.{List, [], _∷_, _++_, map, append-nil}
-use mathlib.Core.Path.{_≡_, sym, subst, subst₂}
+use mathlib.Core.Path.{sym, subst, subst₂}
 use lib.Dec.{T, T-not, not-T, ltb, eqb, ltb→lt}
 use lib.ListN.{length}
 use lib.Seq.{append-snoc}
@@ -17,7 +17,7 @@ use Rattle.table.specs.Sound.{differ, share, agree, sound}
 use Rattle.table.proofs.Facts.{Sound, sound→}
 use Rattle.locks.specs.declared.Message.{Message}
 use Rattle.locks.specs.Conflicts.{conflicts, obstacle}
-use Rattle.locks.specs.Settle.{Event, grantEvent, grant, free, turns, revoked, wanted, settle}
+use Rattle.locks.specs.Settle.{Event, grant, free, turns, revoked, wanted, settle}
 use Rattle.locks.specs.Refusals.{refusal}
 use Rattle.locks.specs.Serve.{Outcome, change, answered, accepted, refused, serve}
 use Rattle.locks.proofs.Walk.{OnGrant, OnWait, Walked, walk}
@@ -65,7 +65,7 @@ turns-stuck t S = walk Stuck t on by S tt
         rw append-snoc
         (all-join (stuck (before ++ (g ∷ after))) before (g ∷ [])
         (all-imp2 (λ r. agree r w) (stuck (before ++ (w ∷ after))) (stuck (before ++ (g ∷ after))) keeps before (pairs-before agree before w after (S .apart)) M)
-        (and-i (stuck (before ++ (g ∷ after)) g) true (imp-i (waits g) (any (obstacle g) (before ++ (g ∷ after))) (λ h. absurd (T-not (waits g) (grant-held (t .issued) lasts before w after S) h))) tt))
+        (and-i (stuck (before ++ (g ∷ after)) g) true (imp-i (waits g) (any (obstacle g) (before ++ (g ∷ after))) (λ h. absurd (T-not (waits g) (grant-held lasts (before ++ (w ∷ after)) w) h))) tt))
       where
         g : Lock
         g = grant lasts (before ++ (w ∷ after)) w

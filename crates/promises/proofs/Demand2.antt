@@ -32,6 +32,7 @@ use Rattle.locks.specs.Events.{eventLayout, eventFields, eventsSize, eventsOver
 use Rattle.locks.specs.Session.{tableAfter, events, numbers}
 use Rattle.locks.proofs.Served.{change-sound}
 use Rattle.locks.proofs.Sessions.{session-numbers}
+use Rattle.locks.proofs.Handles.{session-handles, session-once}
 use Rattle.locks.proofs.Walk.{Walked}
 use Rattle.locks.proofs.Events.{Spared, spare, Once, serve-once, handles}
 use Rattle.serve.specs.declared.Answer.{Answer}
@@ -45,7 +46,7 @@ use Rattle.promises.proofs.Reached.{buffer, buffer-long}
 use Rattle.promises.proofs.Fitting.{event-fits, asked-fits}
 use Rattle.promises.proofs.Outcomes.{served-hit}
 use Rattle.promises.proofs.Sessions.{Follows, outcome-is, bytes-sound, follows, session-follows, session-events, zeros-empty, zeros-sound}
-use Rattle.promises.proofs.Settled.{serve-fair}
+use Rattle.promises.proofs.Settled.{serve-reasoned}
 
 abbrev FitEvents : List Event → Type 0
 FitEvents es = Fits (eventLayout width) (map eventFields es)
@@ -143,7 +144,7 @@ module _ (m : Message) (t b : List ℕ) (r : Answer) (u c : List ℕ) (s : sound
         once = distinct (serve X m .events) (O .one-each);
         few = O .at-most;
         order = (O .grants, O .revoked, O .are, O .grants-rise, O .revoked-rise);
-        fair = λ e. serve-fair X m q (eq→eqb (refusal X m) 0 (sym (served-hit X m) ∙ e));
+        reasoned = λ e. serve-reasoned X m q (eq→eqb (refusal X m) 0 (sym (served-hit X m) ∙ e));
       }
 
 anywhere : (t : List ℕ) → soundTableBytes t ≡ true → Goes t (tableOf width t)
@@ -159,6 +160,8 @@ follow ms es t S =
       table = says;
       sound = F .sound;
       events = same;
+      handles = session-handles ms;
+      distinct = session-once ms;
       numbered = λ s. ap (numbers s) same ∙ session-numbers ms s;
       next = subst (Goes t) says (anywhere t (F .sound));
     }

@@ -11,6 +11,7 @@ pub mod Sessions
 pub mod Members
 pub mod Settled
 pub mod Demand2
+pub mod Overtaken
 pub mod Logged
 pub mod Carried
 pub mod Views

@@ -1,66 +1,31 @@
 -- DEMAND 2. "A session is a list of messages from the empty table through the entries on bytes. Grants, waits, revocations and widened ranges are those
 -- of the rules; the table stays sound; the bytes are what XDR says; each record at most one event a call; no waiter without an obstacle; every
 -- revocation goes to a lock that conflicts with a waiting request, and each such lock in state 1 gets one."
-use Prim.Native.Nat.{ℕ, _≤_, _<_}
+use Prim.Native.Nat.{ℕ, _≤_}
 use mathlib.Core.Path.{_≡_}
 use mathlib.Core.Bool.{true, not}
-use mathlib.Core.Logic.{_⊎_}
-use mathlib.Core.List.{List, [], _∷_, _++_, map}
+use mathlib.Core.List.{List, _++_, map}
 use lib.Dec.{T, eqb, ltb}
 use lib.ListN.{length, getD, replicate}
 use Rattle.common.specs.Counters.{width}
-use Rattle.common.specs.Ranges.{eof}
-use Rattle.common.specs.Tests.{any, pairs, upFrom}
+use Rattle.common.specs.Tests.{pairs, upFrom}
 use Rattle.xdr.specs.Array.{array, arraySize}
-use Rattle.modes.specs.Codes.{granted, asked}
 use Rattle.table.specs.declared.Lock.{Lock}
-use Rattle.table.specs.Table.{Table, empty, handleOf, nth, lastOf, waits, maxRecords}
+use Rattle.table.specs.Table.{Table, empty, handleOf, lastOf, maxRecords}
 use Rattle.table.specs.Bytes.{tableSize, tableOf, soundTableBytes}
 use Rattle.locks.specs.declared.Message.{Message}
-use Rattle.locks.specs.Conflicts.{against, obstacle}
-use Rattle.locks.specs.Settle.{Event, Settled, grantEvent, revocation, inState, grant, turns, presses}
-use Rattle.locks.specs.Serve.{change, serve}
+use Rattle.locks.specs.Settle.{Event, grantEvent, revocation}
+use Rattle.locks.specs.Serve.{serve}
 use Rattle.locks.specs.Events.{eventLayout, eventFields, eventsSize}
-use Rattle.locks.specs.Session.{tableAfter, events, numbers}
+use Rattle.locks.specs.Session.{tableAfter, events, handlesTaken, numbers}
 use Rattle.serve.specs.declared.Answer.{Answer}
 use Rattle.serve.specs.Serves.{Leaves}
 use Rattle.gilboreth.specs.Messages.{outcome}
-use Rattle.promises.specs.Among.{Among}
 use Rattle.promises.specs.Session.{Session}
+use Rattle.promises.specs.Reasoned.{Reasoned}
 
 abbrev pub Rising : List Lock → Type 0
 Rising rs = T (pairs (λ a b. ltb (handleOf a) (handleOf b)) rs)
-
--- The last byte l of a grant of w among the records rs is "the greatest one up to EOF for which the range conflicts with no held lock and no other
--- waiting request"
-pub record Widest (w : Lock) (rs : List Lock) (l : ℕ) : Type 0 where
-  pub reaches : w .last ≤ l
-  pub ends : l ≤ eof
-  pub clear : T (not (any (against w l) rs))
-  pub greatest : (k : ℕ) → l < k → k ≤ eof → T (any (against w k) rs)
-
--- The table X with the message's own change, when the first n places had their turn; and its records when all had
-abbrev pub turned : Table → Message → ℕ → Settled
-turned X m n = turns n (change X m)
-
-abbrev pub settling : Table → Message → List Lock
-settling X m = turned X m (length (change X m .locks)) .table .locks
-
--- What the rules give where they accept the message m on the table X
-pub record Fair (X : Table) (m : Message) : Type 0 where
-  -- "no waiter without an obstacle"
-  pub waiters : (w : Lock) → Among w (serve X m .table .locks) → T (waits w) → T (any (obstacle w) (serve X m .table .locks))
-  -- "every revocation goes to a lock that conflicts with a waiting request, and each such lock in state 1 gets one"
-  pub revoked :
-      (e : Event) → Among e (serve X m .events) → e .kind ≡ 2
-      → (r : Lock) × Among r (settling X m) × (e ≡ revocation (inState asked r)) × (r .state ≡ granted) × T (any (presses r) (settling X m))
-  pub each : (r : Lock) → Among r (settling X m) → r .state ≡ granted → T (any (presses r) (settling X m)) → Among (revocation (inState asked r)) (serve X m .events)
-  -- a grant in state 1 is widened as far as can be, at the turn of its place n
-  pub widened :
-      (e : Event) → Among e (serve X m .events) → e .kind ≡ 1 → e .lock .state ≡ granted
-      → (n : ℕ) × (n < length (change X m .locks))
-      × (e ≡ grantEvent (grant (turned X m n .table .lasts) (turned X m n .table .locks) (nth (turned X m n .table) n)))
-      × Widest (nth (turned X m n .table) n) (turned X m n .table .locks) (e .lock .last)
 
 -- A call on a table that the rules have as X: it answers r, and leaves u in the table and c in the event buffer, which was b
 pub record Called (X : Table) (m : Message) (b : List ℕ) (r : Answer) (u c : List ℕ) : Type 0 where
@@ -76,19 +41,23 @@ pub record Called (X : Table) (m : Message) (b : List ℕ) (r : Answer) (u c : L
   pub once : T (pairs (λ x y. not (eqb (handleOf (x .lock)) (handleOf (y .lock)))) (serve X m .events))
   pub few : length (serve X m .events) ≤ maxRecords
   pub order : (gs rs : List Lock) × (serve X m .events ≡ map grantEvent gs ++ map revocation rs) × Rising gs × Rising rs
-  pub fair : serve X m .refusal ≡ 0 → Fair X m
+  pub reasoned : serve X m .refusal ≡ 0 → Reasoned X m
 
 -- Any call on the bytes t, lent an event buffer that is long enough, goes as the rules say of the table X
 abbrev pub Goes : List ℕ → Table → Type 0
 Goes t X =
     (m : Message) (b : List ℕ) (r : Answer) (u c : List ℕ) → eventsSize width ≤ length b → Leaves (outcome m t b) t b r u c → Called X m b r u c
 
--- After a session of the entries: its table and events are the rules', a stripe's write grants are numbered 1, 2, 3, .., and so goes any call that
--- comes next. Each call of a session comes next after those before it
+-- After a session of the entries: its table and events are the rules', and so goes any call that comes next. Each call of a session comes next after
+-- those before it
 pub record Followed (ms : List Message) (es : List Event) (t : List ℕ) : Type 0 where
   pub table : tableOf width t ≡ tableAfter empty ms
   pub sound : soundTableBytes t ≡ true
   pub events : es ≡ events empty ms
+  -- "A handle is taken by each accepted request, over all stripes, from 1": 1, 2, 3, .., so none is given twice
+  pub handles : handlesTaken empty ms ≡ upFrom 1 (tableAfter empty ms .issued)
+  pub distinct : T (pairs (λ a b. not (eqb a b)) (handlesTaken empty ms))
+  -- "A sequence number is taken by each grant of NBW, BW or PW, per stripe, from 1"
   pub numbered : (s : ℕ) → numbers s es ≡ upFrom 1 (lastOf (tableAfter empty ms) s)
   pub next : Goes t (tableAfter empty ms)
 

@@ -1,7 +1,9 @@
 pub mod Demand1
 pub mod Among
 pub mod Session
+pub mod Reasoned
 pub mod Demand2
+pub mod Overtaken
 pub mod Logged
 pub mod Run
 pub mod Demand3
