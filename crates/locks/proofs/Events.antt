@@ -10,6 +10,7 @@ use lib.Dec.{T, T-not, not-T, ltb, eqb, ltb→lt, eqb→eq}
 use lib.ListN.{length, length-append, length-map}
 use lib.Seq.{append-snoc}
 use Rattle.common.specs.Ranges.{eof}
+use Rattle.common.specs.Refusals.{Rule, firstHit}
 use Rattle.common.specs.Tests.{all, any, keep, pairs}
 use Rattle.common.proofs.Bools.{and-l, and-r, and-i, by-cond, nand-l, nand-imp}
 use Rattle.common.proofs.Listed.{all-imp, all-imp2, none, nobody, all-out, all-put, all-join, pairs-keep, pairs-map}
@@ -26,11 +27,11 @@ use Rattle.table.proofs.Facts.{Valid, valid→, Sound, sound→}
 use Rattle.locks.specs.declared.Message.{Message}
 use Rattle.locks.specs.Conflicts.{other, against, conflicts, hurries}
 use Rattle.locks.specs.Settle.{Event, Settled, grantEvent, revocation, given, inState, nextNumber, widest, grant, free, turns, presses, wanted, revocations, settle}
-use Rattle.locks.specs.Refusals.{refusal}
-use Rattle.locks.specs.Serve.{Outcome, change, answered, accepted, refused, serve}
+use Rattle.locks.specs.Refusals.{rules}
+use Rattle.locks.specs.Serve.{Outcome, change, answered, served, serve}
 use Rattle.locks.proofs.Turn.{w-valid-here, widened-clear}
 use Rattle.locks.proofs.Walk.{OnGrant, OnWait, Walked, walk}
-use Rattle.locks.proofs.Served.{change-sound}
+use Rattle.locks.proofs.Served.{change-keeps, by-served}
 
 -- Two records are two either way round
 turned : (a b : Lock) → T (other a b) → T (other b a)
@@ -196,9 +197,15 @@ once issued s W =
     handles-kept = map-append handleOf G (map (inState asked) K) ∙ ap (λ (l : List ℕ). map handleOf G ++ l) (map-map handleOf (inState asked) K) ∙ sym (map-append handleOf G K)
 
 -- Each record gets at most one event in a call, so there are at most 256
+settle-once : (t : Table) → T (sound t) → Once (settle t .events)
+unfolding settle
+settle-once t s = once (t .issued) (turns (length (t .locks)) t) (spare t (sound→ t s))
+
+pub served-once : (list : List Rule) (h : ℕ) (u t : Table) → (T (eqb (firstHit list) 0) → T (sound u)) → Once (served list h u t .events)
+served-once list h u t g =
+    by-served list h u t (λ (o : Outcome). Once (o .events)) (λ e. settle-once u (g e))
+    (record { grants = []; revoked = []; are = refl; grants-rise = tt; revoked-rise = tt; one-each = tt; at-most = zero-le })
+
 pub serve-once : (t : Table) (m : Message) → T (sound t) → Once (serve t m .events)
-unfolding serve settle
-serve-once t m s =
-    by-cond (λ (o : Outcome). Once (o .events)) (eqb (refusal t m) 0) (accepted (answered t m) (settle (change t m))) (refused t (refusal t m))
-    (λ e. let u : Table = change t m in once (u .issued) (turns (length (u .locks)) u) (spare u (change-sound t m e (sound→ t s))))
-    (λ e. record { grants = []; revoked = []; are = refl; grants-rise = tt; revoked-rise = tt; one-each = tt; at-most = zero-le })
+unfolding serve
+serve-once t m s = served-once (rules t m) (answered t m) (change t m) t (change-keeps t m s)

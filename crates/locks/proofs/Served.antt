@@ -1,4 +1,4 @@
--- A message keeps the table sound.
+-- A call keeps the table sound: settling does, and so does each message's own change.
 use Prim.Native.Nat.{ℕ, _+_, _≤_, _<_}
 use native.Mathlib.Omega.{arith}
 use native.Mathlib.Nat.{le-trans}
@@ -10,7 +10,8 @@ use lib.ListN.{length, getD, length-append}
 use Rattle.common.specs.Counters.{width, highest}
 use Rattle.common.specs.Ranges.{within, range, eof}
 use Rattle.common.specs.Tests.{all, count, keep}
-use Rattle.common.proofs.Bools.{and-l, and-r, and-i, undo, by-cond}
+use Rattle.common.specs.Refusals.{Rule, firstHit}
+use Rattle.common.proofs.Bools.{and-l, and-r, and-i, undo, by-cond, cond-true}
 use Rattle.common.proofs.Listed.{all-imp, all-join, all-keep, pairs-put, pairs-keep, count-put, count-keep, length-keep}
 use Rattle.common.proofs.Refusals.{unbroken}
 use Rattle.modes.specs.Codes.{knownMode, canceling}
@@ -22,7 +23,7 @@ use Rattle.locks.specs.declared.Message.{Message}
 use Rattle.locks.specs.declared.Message.the-variants.{Request, Acknowledge, Downgrade, Release}
 use Rattle.locks.specs.Settle.{Settled, Event, inState, revoked, turns, settle}
 use Rattle.locks.specs.Refusals.{rules, refusal, requestRules, named, mayAcknowledge, mayDowngrade}
-use Rattle.locks.specs.Serve.{Outcome, asking, downgraded, change, answered, accepted, refused, serve}
+use Rattle.locks.specs.Serve.{Outcome, asking, downgraded, change, answered, accepted, refused, served, serve}
 use Rattle.locks.proofs.Changes.{changed, calm-revoked, calm-acknowledged, calm-downgraded}
 use Rattle.locks.proofs.Walk.{Sounds, turns-sound}
 
@@ -122,9 +123,22 @@ settle-sound t S =
     let R : Sounds t s = turns-sound t S (length (t .locks)) (omega arith) in
     changed (s .table .issued) (s .table .lasts) (revoked (s .table .locks)) (calm-revoked (s .table .locks)) (s .table .locks) (rw (R .count) (R .sound))
 
+pub change-keeps : (t : Table) (m : Message) → T (sound t) → T (eqb (refusal t m) 0) → T (sound (change t m))
+change-keeps t m s e = →sound (change t m) (change-sound t m e (sound→ t s))
+
+-- Any call: its rules, the handle that it answers, and its change u of the table t. What holds of t refused and of u settled holds of the outcome,
+-- so a new call has to show of itself that u is sound where no rule is broken
+module _ (list : List Rule) (h : ℕ) (u t : Table) where
+  pub by-served : (P : Outcome → Type 0) → (T (eqb (firstHit list) 0) → P (accepted h (settle u))) → P (refused t (firstHit list)) → P (served list h u t)
+  by-served P a b = by-cond P (eqb (firstHit list) 0) (accepted h (settle u)) (refused t (firstHit list)) a (λ e. b)
+
+  pub served-as : T (eqb (firstHit list) 0) → served list h u t ≡ accepted h (settle u)
+  served-as e = cond-true (eqb (firstHit list) 0) (accepted h (settle u)) (refused t (firstHit list)) e
+
+  pub served-sound : T (sound t) → (T (eqb (firstHit list) 0) → T (sound u)) → T (sound (served list h u t .table))
+  served-sound s g = by-served (λ (o : Outcome). T (sound (o .table))) (λ e. →sound (settle u .table) (settle-sound u (sound→ u (g e)))) s
+
 -- An accepted message leaves a sound table
 pub serve-sound : (t : Table) (m : Message) → T (sound t) → T (sound (serve t m .table))
 unfolding serve
-serve-sound t m s =
-    by-cond (λ (o : Outcome). T (sound (o .table))) (eqb (refusal t m) 0) (accepted (answered t m) (settle (change t m))) (refused t (refusal t m))
-    (λ e. →sound (settle (change t m) .table) (settle-sound (change t m) (change-sound t m e (sound→ t s)))) (λ e. s)
+serve-sound t m s = served-sound (rules t m) (answered t m) (change t m) t s (change-keeps t m s)

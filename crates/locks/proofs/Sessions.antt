@@ -8,6 +8,7 @@ use mathlib.Core.Path.{_≡_, refl, sym, ap, subst, _∙_}
 use lib.Dec.{T, eqb, eqb→eq}
 use lib.ListN.{length, getD, replicate}
 use Rattle.common.specs.Ranges.{eof}
+use Rattle.common.specs.Refusals.{Rule, firstHit}
 use Rattle.common.specs.Tests.{all, any, keep, upFrom}
 use Rattle.common.proofs.Bools.{and-l, and-r, by-cond}
 use Rattle.common.proofs.Listed.{keep-append}
@@ -20,13 +21,13 @@ use Rattle.locks.specs.declared.Message.{Message}
 use Rattle.locks.specs.declared.Message.the-variants.{Request, Acknowledge, Downgrade, Release}
 use Rattle.locks.specs.Conflicts.{hurries}
 use Rattle.locks.specs.Settle.{Event, grantEvent, revocation, given, inState, nextNumber, lastsAfter, widest, grant, turns, wanted, revocations, settle}
-use Rattle.locks.specs.Refusals.{refusal}
-use Rattle.locks.specs.Serve.{Outcome, change, answered, accepted, refused, serve}
+use Rattle.locks.specs.Refusals.{rules}
+use Rattle.locks.specs.Serve.{Outcome, change, answered, served, serve}
 use Rattle.locks.specs.Session.{tableAfter, events, writeGrant, numbers}
 use Rattle.locks.proofs.Numbering.{next-is, lasts-at}
 use Rattle.locks.proofs.Turn.{w-valid-here}
 use Rattle.locks.proofs.Walk.{OnGrant, OnWait, walk}
-use Rattle.locks.proofs.Served.{change-sound, serve-sound}
+use Rattle.locks.proofs.Served.{change-keeps, by-served, serve-sound}
 use Rattle.locks.proofs.Waits.{stuck, serve-stuck}
 use Rattle.locks.proofs.Overtaken.{inOrder, serve-in-order}
 use Rattle.locks.proofs.Rows.{Row, row-none, row-join, row-from-one}
@@ -115,14 +116,16 @@ same-lasts t (Acknowledge c h) = refl
 same-lasts t (Downgrade c h) = refl
 same-lasts t (Release c h) = refl
 
+pub served-counted : (list : List Rule) (h : ℕ) (u t : Table) (s : ℕ) → (T (eqb (firstHit list) 0) → T (sound u)) → u .lasts ≡ t .lasts
+    → Counted s (lastOf t s) (served list h u t .table .lasts) (served list h u t .events)
+served-counted list h u t s g q =
+    by-served list h u t (λ (o : Outcome). Counted s (lastOf t s) (o .table .lasts) (o .events))
+    (λ e. subst (λ (l : List ℕ). Counted s (getD l s 0) (settle u .table .lasts) (settle u .events)) q (settle-counted u s (sound→ u (g e))))
+    (row-none (lastOf t s))
+
 pub serve-counted : (t : Table) (m : Message) (s : ℕ) → T (sound t) → Counted s (lastOf t s) (serve t m .table .lasts) (serve t m .events)
 unfolding serve
-serve-counted t m s q =
-    by-cond (λ (o : Outcome). Counted s (lastOf t s) (o .table .lasts) (o .events)) (eqb (refusal t m) 0) (accepted (answered t m) (settle (change t m))) (refused t (refusal t m))
-    (λ e.
-    let u : Table = change t m in
-    subst (λ (l : List ℕ). Counted s (getD l s 0) (settle u .table .lasts) (settle u .events)) (same-lasts t m) (settle-counted u s (change-sound t m e (sound→ t q))))
-    (λ e. row-none (lastOf t s))
+serve-counted t m s q = served-counted (rules t m) (answered t m) (change t m) t s (change-keeps t m q) (same-lasts t m)
 
 pub session-counted : (t : Table) (ms : List Message) (s : ℕ) → T (sound t) → Counted s (lastOf t s) (tableAfter t ms .lasts) (events t ms)
 session-counted t [] s q = row-none (lastOf t s)

@@ -8,8 +8,9 @@ use mathlib.Core.Path.{sym, subst, subst₂}
 use lib.Dec.{T, T-not, not-T, ltb, eqb, ltb→lt}
 use lib.ListN.{length}
 use lib.Seq.{append-snoc}
+use Rattle.common.specs.Refusals.{Rule, firstHit}
 use Rattle.common.specs.Tests.{all, any, implies}
-use Rattle.common.proofs.Bools.{and-l, and-i, imp-i, imp-e, by-cond, undo, nand-l, cond-true}
+use Rattle.common.proofs.Bools.{and-l, and-i, imp-i, imp-e, undo, nand-l}
 use Rattle.common.proofs.Listed.{all-imp2, all-join, all-map, any-but, any-map, pairs-before}
 use Rattle.table.specs.declared.Lock.{Lock}
 use Rattle.table.specs.Table.{Table, handleOf, waits, held}
@@ -18,10 +19,10 @@ use Rattle.table.proofs.Facts.{Sound, sound→}
 use Rattle.locks.specs.declared.Message.{Message}
 use Rattle.locks.specs.Conflicts.{conflicts, obstacle}
 use Rattle.locks.specs.Settle.{Event, grant, free, turns, revoked, wanted, settle}
-use Rattle.locks.specs.Refusals.{refusal}
-use Rattle.locks.specs.Serve.{Outcome, change, answered, accepted, refused, serve}
+use Rattle.locks.specs.Refusals.{rules, refusal}
+use Rattle.locks.specs.Serve.{Outcome, change, answered, served, serve}
 use Rattle.locks.proofs.Walk.{OnGrant, OnWait, Walked, walk}
-use Rattle.locks.proofs.Served.{change-sound}
+use Rattle.locks.proofs.Served.{change-keeps, by-served, served-as}
 use Rattle.locks.proofs.Events.{grant-held}
 use Rattle.locks.proofs.Revoked.{waits-same, obstacle-same, none-wanted}
 
@@ -96,16 +97,20 @@ pub record Calm (rs : List Lock) : Type 0 where
   pub waiters : T (all (stuck rs) rs)
   pub unwanted : T (all (λ r. not (wanted rs r)) rs)
 
+settle-calm : (t : Table) → T (sound t) → Calm (settle t .table .locks)
+unfolding settle
+settle-calm t s = record { waiters = settle-stuck t (sound→ t s); unwanted = none-wanted (turns (length (t .locks)) t .table .locks) }
+
+pub served-calm : (list : List Rule) (h : ℕ) (u t : Table) → T (eqb (firstHit list) 0) → T (sound u) → Calm (served list h u t .table .locks)
+served-calm list h u t e s = subst (λ (o : Outcome). Calm (o .table .locks)) (sym (served-as list h u t e)) (settle-calm u s)
+
 pub serve-calm : (t : Table) (m : Message) → T (sound t) → T (eqb (refusal t m) 0) → Calm (serve t m .table .locks)
-unfolding serve settle
-serve-calm t m s e =
-    let u : Table = change t m in
-    subst (λ (o : Outcome). Calm (o .table .locks)) (sym (cond-true (eqb (refusal t m) 0) (accepted (answered t m) (settle u)) (refused t (refusal t m)) e))
-    (record { waiters = settle-stuck u (change-sound t m e (sound→ t s)); unwanted = none-wanted (turns (length (u .locks)) u .table .locks) })
+unfolding serve
+serve-calm t m s e = served-calm (rules t m) (answered t m) (change t m) t e (change-keeps t m s e)
 
 -- any message keeps it
 pub serve-stuck : (t : Table) (m : Message) → T (sound t) → T (all (stuck (t .locks)) (t .locks)) → T (all (stuck (serve t m .table .locks)) (serve t m .table .locks))
 unfolding serve
 serve-stuck t m s k =
-    by-cond (λ (o : Outcome). T (all (stuck (o .table .locks)) (o .table .locks))) (eqb (refusal t m) 0) (accepted (answered t m) (settle (change t m))) (refused t (refusal t m))
-    (λ e. settle-stuck (change t m) (change-sound t m e (sound→ t s))) (λ e. k)
+    by-served (rules t m) (answered t m) (change t m) t (λ (o : Outcome). T (all (stuck (o .table .locks)) (o .table .locks)))
+    (λ e. settle-stuck (change t m) (sound→ (change t m) (change-keeps t m s e))) k

@@ -1,9 +1,10 @@
--- Serving one message of a sound table.
+-- Serving a call on a sound table, and one message.
 use Prim.Native.Nat.{ℕ, _+_}
 use mathlib.Core.Bool.{not, cond}
 use mathlib.Core.List.{List, [], _∷_, _++_, map}
 use lib.Dec.{eqb}
 use Rattle.common.specs.Counters.{handle, number}
+use Rattle.common.specs.Refusals.{Rule, firstHit}
 use Rattle.common.specs.Tests.{keep}
 use Rattle.modes.specs.Codes.{waiting, canceling, nbw}
 use Rattle.table.specs.declared.Lock.{Lock}
@@ -12,7 +13,7 @@ use Rattle.table.specs.Places.{withLocks}
 use Rattle.locks.specs.declared.Message.{Message}
 use Rattle.locks.specs.declared.Message.the-variants.{Request, Acknowledge, Downgrade, Release}
 use Rattle.locks.specs.Settle.{Event, Settled, settle, inState}
-use Rattle.locks.specs.Refusals.{refusal, named, mayAcknowledge, mayDowngrade}
+use Rattle.locks.specs.Refusals.{named, mayAcknowledge, mayDowngrade, rules}
 
 -- A new record, which waits
 abbrev pub asking : ℕ → ℕ → ℕ → ℕ → ℕ → ℕ → Lock
@@ -70,5 +71,10 @@ accepted h s = record { refusal = 0; handle = h; table = s .table; events = s .e
 abbrev pub refused : Table → ℕ → Outcome
 refused t n = record { refusal = n; handle = 0; table = t; events = [] }
 
+-- A call on the table t, whatever it asks: its rules in order, the handle that it answers, and the table with its own change, which is then settled
+abbrev pub served : List Rule → ℕ → Table → Table → Outcome
+served list h changed t = cond (eqb (firstHit list) 0) (accepted h (settle changed)) (refused t (firstHit list))
+
+-- A message is a call by its own rules, answer and change
 unfoldable pub serve : Table → Message → Outcome
-serve t m = cond (eqb (refusal t m) 0) (accepted (answered t m) (settle (change t m))) (refused t (refusal t m))
+serve t m = served (rules t m) (answered t m) (change t m) t
