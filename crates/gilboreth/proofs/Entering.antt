@@ -22,19 +22,19 @@ use Rattle.settle.specs.Posts.{Good}
 use Rattle.serve.specs.declared.Answer.{Answer}
 use Rattle.serve.specs.Serves.{Leaves}
 use Rattle.serve.proofs.Ending.{leaves-refused}
-use Rattle.gilboreth.specs.Messages.{outcome}
+use Rattle.gilboreth.specs.Messages.{outcome, Serves}
 
 module _ (m : Message) (t b : List ℕ) (r : Answer) where
-  pub too-short : length b < 11268 → r ≡ record { refusal = 1; handle = 0; events = 0 } → Leaves (outcome m t b) t b r t b
+  pub too-short : length b < 11268 → r ≡ record { refusal = 1; handle = 0; events = 0 } → Serves m t b r t b
   unfolding outcome
   too-short h q = rw (lt-ltb (length b) 11268 h) (leaves-refused (tableOf width t) t b r 1 (λ e. omega arith) q)
 
   module _ (x : Bool) (h : 11268 ≤ length b) (e : x ≡ soundTableBytes t) where
-    pub not-sound : not x ≡ true → r ≡ record { refusal = 2; handle = 0; events = 0 } → Leaves (outcome m t b) t b r t b
+    pub not-sound : not x ≡ true → r ≡ record { refusal = 2; handle = 0; events = 0 } → Serves m t b r t b
     unfolding outcome
     not-sound f q = rw (le-ltb (length b) 11268 h, ← e, f) (leaves-refused (tableOf width t) t b r 2 (λ e. omega arith) q)
 
-    pub passed : (u c : List ℕ) → not x ≡ false → Leaves (serve (tableOf width t) m) t b r u c → Leaves (outcome m t b) t b r u c
+    pub passed : (u c : List ℕ) → not x ≡ false → Leaves (serve (tableOf width t) m) t b r u c → Serves m t b r u c
     unfolding outcome
     passed u c f L = rw (le-ltb (length b) 11268 h, ← e, f) L
 

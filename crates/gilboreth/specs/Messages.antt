@@ -1,4 +1,4 @@
--- What each message's entry answers and leaves in table and event buffer, on bytes and for every input: `Leaves (outcome m table events) ..` of serve/Serves.
+-- What each message's entry answers and leaves in table and event buffer, on bytes and for every input.
 use Prim.Native.Nat.{ℕ}
 use mathlib.Core.Bool.{not, cond}
 use mathlib.Core.List.{List, [], _∷_}
@@ -10,6 +10,8 @@ use Rattle.table.specs.Bytes.{tableOf, soundTableBytes}
 use Rattle.locks.specs.declared.Message.{Message}
 use Rattle.locks.specs.Serve.{Outcome, refused, serve}
 use Rattle.locks.specs.Events.{eventsSize}
+use Rattle.serve.specs.declared.Answer.{Answer}
+use Rattle.serve.specs.Serves.{Leaves}
 
 -- 1: "event buffer under 11,268 bytes"; 2: "table of another length, or not sound"
 abbrev pub entryRules : List ℕ → List ℕ → List Rule
@@ -20,3 +22,7 @@ unfoldable pub outcome : Message → List ℕ → List ℕ → Outcome
 outcome m table events =
     let n = firstHit (entryRules table events) in
     cond (eqb n 0) (serve (tableOf width table) m) (refused (tableOf width table) n)
+
+-- The message m, lent the table t and the event buffer b, answers r and leaves u and c in them
+abbrev pub Serves : Message → List ℕ → List ℕ → Answer → List ℕ → List ℕ → Type 0
+Serves m t b r u c = Leaves (outcome m t b) t b r u c

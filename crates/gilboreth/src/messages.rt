@@ -2,15 +2,14 @@
 use locks::Message;
 use serve::Answer;
 ghost use Rattle.locks.specs.declared.Message.the-variants.{Request, Acknowledge, Downgrade, Release};
-ghost use Rattle.serve.specs.Serves.{Leaves};
-ghost use Rattle.gilboreth.specs.Messages.{outcome};
+ghost use Rattle.gilboreth.specs.Messages.{Serves};
 
 // How many bytes the event buffer has at least.
 pub const EVENTS_BYTES: usize = 11268;
 
 // Serves a message on bytes of which nothing is known.
 fn call(table: &mut [u8], events: &mut [u8], m: Message) -> Answer
-    ensures { λ r. ⌜ Leaves (outcome m (now (table .entry)) (now (events .entry))) (now (table .entry)) (now (events .entry)) r (now (table .exit)) (now (events .exit)) ⌝ }
+    ensures { λ r. ⌜ Serves m (now (table .entry)) (now (events .entry)) r (now (table .exit)) (now (events .exit)) ⌝ }
 {
     if events.len() < EVENTS_BYTES {
         return serve::refused(1);
@@ -32,7 +31,7 @@ pub extern "C" fn gil_request(
     first: u64,
     last: u64,
 ) -> Answer
-    ensures { λ r. ⌜ Leaves (outcome (Request client stripe mode first last) (now (table .entry)) (now (events .entry))) (now (table .entry)) (now (events .entry)) r (now (table .exit)) (now (events .exit)) ⌝ }
+    ensures { λ r. ⌜ Serves (Request client stripe mode first last) (now (table .entry)) (now (events .entry)) r (now (table .exit)) (now (events .exit)) ⌝ }
 {
     let m = Message::Request {
         client: client,
@@ -52,7 +51,7 @@ pub extern "C" fn gil_acknowledge(
     client: u64,
     handle: u64,
 ) -> Answer
-    ensures { λ r. ⌜ Leaves (outcome (Acknowledge client handle) (now (table .entry)) (now (events .entry))) (now (table .entry)) (now (events .entry)) r (now (table .exit)) (now (events .exit)) ⌝ }
+    ensures { λ r. ⌜ Serves (Acknowledge client handle) (now (table .entry)) (now (events .entry)) r (now (table .exit)) (now (events .exit)) ⌝ }
 {
     let m = Message::Acknowledge {
         client: client,
@@ -69,7 +68,7 @@ pub extern "C" fn gil_downgrade(
     client: u64,
     handle: u64,
 ) -> Answer
-    ensures { λ r. ⌜ Leaves (outcome (Downgrade client handle) (now (table .entry)) (now (events .entry))) (now (table .entry)) (now (events .entry)) r (now (table .exit)) (now (events .exit)) ⌝ }
+    ensures { λ r. ⌜ Serves (Downgrade client handle) (now (table .entry)) (now (events .entry)) r (now (table .exit)) (now (events .exit)) ⌝ }
 {
     let m = Message::Downgrade {
         client: client,
@@ -86,7 +85,7 @@ pub extern "C" fn gil_release(
     client: u64,
     handle: u64,
 ) -> Answer
-    ensures { λ r. ⌜ Leaves (outcome (Release client handle) (now (table .entry)) (now (events .entry))) (now (table .entry)) (now (events .entry)) r (now (table .exit)) (now (events .exit)) ⌝ }
+    ensures { λ r. ⌜ Serves (Release client handle) (now (table .entry)) (now (events .entry)) r (now (table .exit)) (now (events .exit)) ⌝ }
 {
     let m = Message::Release {
         client: client,

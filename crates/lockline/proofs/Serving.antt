@@ -19,7 +19,7 @@ use Rattle.locks.specs.Events.{eventFields, eventsSize, eventsOver}
 use Rattle.locks.proofs.Events.{serve-once}
 use Rattle.serve.specs.declared.Answer.{Answer}
 use Rattle.serve.specs.Serves.{Leaves}
-use Rattle.gilboreth.specs.Messages.{outcome}
+use Rattle.gilboreth.specs.Messages.{outcome, Serves}
 use Rattle.gilboreth.proofs.Entering.{sound-good}
 use Rattle.promises.specs.Session.{done, call}
 use Rattle.promises.proofs.Sessions.{outcome-is, Follows, session-follows}
@@ -43,7 +43,7 @@ refused-none x m = go (eqb (refusal x m) 0)
 
 -- a call on a sound table, with an event buffer that is long enough
 module _ (m : Message) (t b : List ℕ) {r : Answer} {u c : List ℕ} (s : soundTableBytes t ≡ true) (h : eventsSize width ≤ length b)
-    (L : Leaves (outcome m t b) t b r u c) where
+    (L : Serves m t b r u c) where
   abbrev o : Outcome
   o = serve (tableOf width t) m
 

@@ -6,8 +6,7 @@ use line::Read;
 use locks::Message;
 use serve::Answer;
 use table::TABLE_BYTES;
-ghost use Rattle.serve.specs.Serves.{Leaves};
-ghost use Rattle.gilboreth.specs.Messages.{outcome};
+ghost use Rattle.gilboreth.specs.Messages.{Serves};
 ghost use Rattle.lockline.specs.Program.{Lent, Ready, Answers, Feeds, Ends, Pours};
 
 // How much is kept of a line: 128 bytes, the CR of its break, and one byte more that tells a line that is too long.
@@ -18,7 +17,7 @@ const OUT_BYTES: usize = 43821;
 
 // Serves a message through the entry that C gets.
 fn call(table: &mut [u8], events: &mut [u8], m: Message) -> Answer
-    ensures { λ r. ⌜ Leaves (outcome m (now (table .entry)) (now (events .entry))) (now (table .entry)) (now (events .entry)) r (now (table .exit)) (now (events .exit)) ⌝ }
+    ensures { λ r. ⌜ Serves m (now (table .entry)) (now (events .entry)) r (now (table .exit)) (now (events .exit)) ⌝ }
 {
     match m {
         Message::Request {

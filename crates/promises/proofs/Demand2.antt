@@ -37,7 +37,7 @@ use Rattle.locks.proofs.Walk.{Walked}
 use Rattle.locks.proofs.Events.{Spared, spare, Once, serve-once, handles}
 use Rattle.serve.specs.declared.Answer.{Answer}
 use Rattle.serve.specs.Serves.{Leaves}
-use Rattle.gilboreth.specs.Messages.{outcome}
+use Rattle.gilboreth.specs.Messages.{outcome, Serves}
 use Rattle.promises.specs.Session.{Session, done, call}
 use Rattle.promises.specs.Demand2.{Called, Goes, Followed, Demand2}
 use Rattle.promises.proofs.Determined.{of-message}
@@ -93,7 +93,7 @@ distinct (e ∷ es) t =
     and-i (all (λ y. not (eqb (handleOf (e .lock)) (handleOf (y .lock)))) es) (pairs (λ x y. not (eqb (handleOf (x .lock)) (handleOf (y .lock)))) es) (apart e es (and-l p k t)) (distinct es (and-r p k t))
 
 -- One call on sound bytes, which say the table X
-module _ (m : Message) (t b : List ℕ) (r : Answer) (u c : List ℕ) (s : soundTableBytes t ≡ true) (h : eventsSize width ≤ length b) (L : Leaves (outcome m t b) t b r u c) where
+module _ (m : Message) (t b : List ℕ) (r : Answer) (u c : List ℕ) (s : soundTableBytes t ≡ true) (h : eventsSize width ≤ length b) (L : Serves m t b r u c) where
   abbrev X : Table
   X = tableOf width t
 

@@ -19,8 +19,7 @@ use Rattle.locks.specs.Refusals.{rules}
 use Rattle.locks.specs.Serve.{Outcome, refused}
 use Rattle.locks.specs.Events.{eventsOver}
 use Rattle.serve.specs.declared.Answer.{Answer}
-use Rattle.serve.specs.Serves.{Leaves}
-use Rattle.gilboreth.specs.Messages.{entryRules, outcome}
+use Rattle.gilboreth.specs.Messages.{entryRules, outcome, Serves}
 use Rattle.gilboreth.specs.Note.{noteAnswer, noteMap, noteLog}
 use Rattle.gilboreth.specs.Write.{writeAnswer, writeImage}
 use Rattle.gilboreth.specs.Restart.{restartAnswer, restartMap}
@@ -31,7 +30,7 @@ use Rattle.promises.proofs.Outcomes.{judged, outcome-hit, outcome-alone
 use Rattle.promises.proofs.StripeRefusals.{note-listed, write-listed, restart-listed, note-refused, write-refused, restart-refused}
 
 abbrev Meets : Message → List ℕ → List ℕ → Served → Type 0
-Meets m t b x = Leaves (outcome m t b) t b (x .answer) (x .table) (x .events) × Bytes (x .table)
+Meets m t b x = Serves m t b (x .answer) (x .table) (x .events) × Bytes (x .table)
 
 module _ (m : Message) (t b : List ℕ) where
   -- the table's bytes after the call

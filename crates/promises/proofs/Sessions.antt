@@ -27,7 +27,7 @@ use Rattle.locks.proofs.Served.{serve-sound}
 use Rattle.locks.proofs.Sessions.{empty-sound}
 use Rattle.serve.specs.declared.Answer.{Answer}
 use Rattle.serve.specs.Serves.{Leaves}
-use Rattle.gilboreth.specs.Messages.{outcome}
+use Rattle.gilboreth.specs.Messages.{outcome, Serves}
 use Rattle.promises.specs.Session.{Session, done, call}
 
 -- Of sound bytes the outcome is the rules'
@@ -62,7 +62,7 @@ refused-same X m = go (eqb (refusal X m) 0)
     go true e = never (sym e)
     go false e = refl
 
-pub follows : (m : Message) (t b : List ℕ) (r : Answer) (u c : List ℕ) → soundTableBytes t ≡ true → eventsSize width ≤ length b → Leaves (outcome m t b) t b r u c → Follows (serve (tableOf width t) m .table) u
+pub follows : (m : Message) (t b : List ℕ) (r : Answer) (u c : List ℕ) → soundTableBytes t ≡ true → eventsSize width ≤ length b → Serves m t b r u c → Follows (serve (tableOf width t) m .table) u
 follows m t b r u c s h L = go (eqb (o .refusal) 0) refl
   where
     o : Outcome

@@ -18,8 +18,7 @@ use Rattle.locks.specs.Refusals.{rules}
 use Rattle.runs.specs.Bytes.{runsOf, mapSize, soundMapBytes, soundLogBytes}
 use Rattle.stripe.specs.Refusals.{writeRules, restartRules}
 use Rattle.serve.specs.declared.Answer.{Answer}
-use Rattle.serve.specs.Serves.{Leaves}
-use Rattle.gilboreth.specs.Messages.{entryRules, outcome}
+use Rattle.gilboreth.specs.Messages.{entryRules, outcome, Serves}
 use Rattle.gilboreth.specs.Note.{noteList, noteAnswer, Notes}
 use Rattle.gilboreth.specs.Write.{writeAnswer, Writes}
 use Rattle.gilboreth.specs.Restart.{restartAnswer, Restarts}
@@ -104,7 +103,7 @@ entryOf (Release c h) = release
 abbrev pub OfMessage : Message → List ℕ → List ℕ → Type 0
 OfMessage m table events =
     Promised {R = Served}
-    (λ x. Leaves (outcome m table events) table events (x .answer) (x .table) (x .events) × Bytes (x .table))
+    (λ x. Serves m table events (x .answer) (x .table) (x .events) × Bytes (x .table))
     (λ x. x .answer .refusal)
     (entryRules table events ++ rules (tableOf width table) m) (numbers (entryOf m))
     (λ n. record { answer = record { refusal = n; handle = 0; events = 0 }; table = table; events = events })

@@ -19,8 +19,7 @@ use Rattle.locks.specs.Serve.{serve}
 use Rattle.locks.specs.Events.{eventLayout, eventFields, eventsSize}
 use Rattle.locks.specs.Session.{tableAfter, events, handlesTaken, numbers}
 use Rattle.serve.specs.declared.Answer.{Answer}
-use Rattle.serve.specs.Serves.{Leaves}
-use Rattle.gilboreth.specs.Messages.{outcome}
+use Rattle.gilboreth.specs.Messages.{Serves}
 use Rattle.promises.specs.Session.{Session}
 use Rattle.promises.specs.Reasoned.{Reasoned}
 
@@ -46,7 +45,7 @@ pub record Called (X : Table) (m : Message) (b : List ℕ) (r : Answer) (u c : L
 -- Any call on the bytes t, lent an event buffer that is long enough, goes as the rules say of the table X
 abbrev pub Goes : List ℕ → Table → Type 0
 Goes t X =
-    (m : Message) (b : List ℕ) (r : Answer) (u c : List ℕ) → eventsSize width ≤ length b → Leaves (outcome m t b) t b r u c → Called X m b r u c
+    (m : Message) (b : List ℕ) (r : Answer) (u c : List ℕ) → eventsSize width ≤ length b → Serves m t b r u c → Called X m b r u c
 
 -- After a session of the entries: its table and events are the rules', and so goes any call that comes next. Each call of a session comes next after
 -- those before it

@@ -13,8 +13,7 @@ use Rattle.locks.specs.Events.{eventLayout, eventsSize}
 use Rattle.runs.specs.declared.Run.{Run}
 use Rattle.runs.specs.Bytes.{runsOf}
 use Rattle.serve.specs.declared.Answer.{Answer}
-use Rattle.serve.specs.Serves.{Leaves}
-use Rattle.gilboreth.specs.Messages.{outcome}
+use Rattle.gilboreth.specs.Messages.{Serves}
 use Rattle.gilboreth.specs.Note.{noteAnswer}
 use Rattle.gilboreth.specs.Write.{writeAnswer}
 use Rattle.promises.specs.Run as run
@@ -28,7 +27,7 @@ shown r c = (r .refusal ∷ r .handle ∷ []) ∷ cond (eqb (r .refusal) 0) (arr
 pub data Prints : List ℕ → List Message → List (List ℕ) → Type 0 where
   done : {t : List ℕ} → Prints t [] []
   call : {t u b c : List ℕ} {m : Message} {ms : List Message} {r : Answer} {ls : List (List ℕ)}
-      → eventsSize width ≤ length b → Leaves (outcome m t b) t b r u c → Prints u ms ls → Prints t (m ∷ ms) (shown r c ++ ls)
+      → eventsSize width ≤ length b → Serves m t b r u c → Prints u ms ls → Prints t (m ∷ ms) (shown r c ++ ls)
 
 -- A call as a step of a run: a note is told how long the piece is
 abbrev pub piece : ℕ → List ℕ → ℕ → Piece

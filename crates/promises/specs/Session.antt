@@ -8,11 +8,10 @@ use Rattle.locks.specs.declared.Message.{Message}
 use Rattle.locks.specs.Settle.{Event}
 use Rattle.locks.specs.Events.{eventsSize}
 use Rattle.serve.specs.declared.Answer.{Answer}
-use Rattle.serve.specs.Serves.{Leaves}
-use Rattle.gilboreth.specs.Messages.{outcome}
+use Rattle.gilboreth.specs.Messages.{outcome, Serves}
 
 -- From the table's bytes t the messages lead to v, with these events
 pub data Session : List ℕ → List Message → List Event → List ℕ → Type 0 where
   done : {t : List ℕ} → Session t [] [] t
   call : {t u v b c : List ℕ} {m : Message} {ms : List Message} {r : Answer} {es : List Event}
-      → eventsSize width ≤ length b → Leaves (outcome m t b) t b r u c → Session u ms es v → Session t (m ∷ ms) (outcome m t b .events ++ es) v
+      → eventsSize width ≤ length b → Serves m t b r u c → Session u ms es v → Session t (m ∷ ms) (outcome m t b .events ++ es) v
