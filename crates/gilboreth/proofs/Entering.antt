@@ -20,7 +20,7 @@ use Rattle.locks.specs.declared.Message.{Message}
 use Rattle.locks.specs.Serve.{serve}
 use Rattle.settle.specs.Posts.{Good}
 use Rattle.serve.specs.declared.Answer.{Answer}
-use Rattle.serve.specs.Serves.{Leaves}
+use Rattle.serve.specs.Leaves.{Leaves}
 use Rattle.serve.proofs.Ending.{leaves-refused}
 use Rattle.gilboreth.specs.Messages.{outcome, Serves}
 

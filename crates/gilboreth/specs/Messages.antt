@@ -11,7 +11,7 @@ use Rattle.locks.specs.declared.Message.{Message}
 use Rattle.locks.specs.Serve.{Outcome, refused, serve}
 use Rattle.locks.specs.Events.{eventsSize}
 use Rattle.serve.specs.declared.Answer.{Answer}
-use Rattle.serve.specs.Serves.{Leaves}
+use Rattle.serve.specs.Leaves.{Leaves}
 
 -- 1: "event buffer under 11,268 bytes"; 2: "table of another length, or not sound"
 abbrev pub entryRules : List ℕ → List ℕ → List Rule

@@ -26,7 +26,7 @@ use Rattle.locks.specs.Events.{eventsSize}
 use Rattle.locks.proofs.Served.{serve-sound}
 use Rattle.locks.proofs.Sessions.{empty-sound}
 use Rattle.serve.specs.declared.Answer.{Answer}
-use Rattle.serve.specs.Serves.{Leaves}
+use Rattle.serve.specs.Leaves.{Leaves}
 use Rattle.gilboreth.specs.Messages.{outcome, Serves}
 use Rattle.promises.specs.Session.{Session, done, call}
 

@@ -13,25 +13,35 @@ use Rattle.common.proofs.Order.{eq→eqb}
 use Rattle.common.proofs.Refusals.{unbroken}
 use Rattle.modes.specs.Codes.{knownMode}
 use Rattle.table.specs.Table.{Table, maxClient, maxStripe, maxRecords}
+use Rattle.table.specs.Sound.{sound}
 use Rattle.table.specs.Bytes.{locksOf, tableOf}
 use Rattle.table.specs.Places.{FitsTable, Holds, withIssued, withLocks}
 use Rattle.table.proofs.Records.{locks-length}
+use Rattle.locks.specs.declared.Message.{Message}
 use Rattle.locks.specs.declared.Message.the-variants.{Request}
-use Rattle.locks.specs.Refusals.{requestRules, rules, refusal}
+use Rattle.locks.specs.Refusals.{requestRules, rules}
 use Rattle.locks.specs.Serve.{asking, change, answered, serve}
+use Rattle.locks.proofs.Served.{change-keeps}
 use Rattle.settle.specs.Posts.{Good}
 use Rattle.serve.specs.declared.Answer.{Answer}
-use Rattle.serve.specs.Serves.{Leaves, Ends}
-use Rattle.serve.proofs.Ending.{serve-refused, changed-good, changed-served}
+use Rattle.serve.specs.Posts.{OnSound, Ends}
+use Rattle.serve.proofs.Ending.{holds-good, ends-at, served-refused, served-accepted}
 
 -- k is what the rows answer
 module _ (n c s m f l k : ℕ) (t : List ℕ) (p : k ≡ firstHit (requestRules (tableOf width t) c s m f l)) where
-  rows : k ≡ refusal (tableOf width t) (Request c s m f l)
+  abbrev X : Table
+  X = tableOf width t
+
+  abbrev asks : Message
+  asks = Request c s m f l
+
+  rows : k ≡ firstHit (rules X asks)
   unfolding rules
   rows = p
 
-  pub request-refused : (b : List ℕ) (r : Answer) → (k ≡ 0 → ⊥) → r ≡ record { refusal = k; handle = 0; events = 0 } → Leaves (serve (tableOf width t) (Request c s m f l)) t b r t b
-  request-refused b r z q = serve-refused (tableOf width t) (Request c s m f l) t b r k rows z q
+  pub request-refused : (b : List ℕ) (r : Answer) → (k ≡ 0 → ⊥) → r ≡ record { refusal = k; handle = 0; events = 0 } → OnSound (Request c s m f l) t b r t b
+  unfolding serve
+  request-refused b r z q = served-refused (rules X asks) (answered X asks) (change X asks) t b r k rows z q
 
   -- it answers 0, and e handles are issued
   module _ (G : Good n t) (z : k ≡ 0) (e : ℕ) (q : e ≡ tableOf width t .issued) where
@@ -62,15 +72,24 @@ module _ (n c s m f l k : ℕ) (t : List ℕ) (p : k ≡ firstHit (requestRules 
 
     -- the handle is issued, which leaves u; the record is added, which leaves v
     module _ (u v : List ℕ) (H : Holds n (withIssued (tableOf width t) (e + 1)) u) (K : Holds (n + 1) (withLocks (tableOf width u) (locksOf width u ++ (asking (e + 1) c s m f l ∷ []))) v) where
-      changed : Holds (n + 1) (change (tableOf width t) (Request c s m f l)) v
+      changed : tableOf width v ≡ change X asks
       unfolding change
       changed =
-          subst (λ (j : ℕ). Holds (n + 1) (withLocks (withIssued (tableOf width t) (j + 1)) (locksOf width t ++ (asking (j + 1) c s m f l ∷ []))) v) q
-          (subst (λ (X : Table). Holds (n + 1) (withLocks X (X .locks ++ (asking (e + 1) c s m f l ∷ []))) v) (H .says) K)
+          K .says
+          ∙ ap (λ (Y : Table). withLocks Y (Y .locks ++ (asking (e + 1) c s m f l ∷ []))) (H .says)
+          ∙ ap (λ (j : ℕ). withLocks (withIssued X (j + 1)) (locksOf width t ++ (asking (j + 1) c s m f l ∷ []))) q
+
+      accepts : firstHit (rules X asks) ≡ 0
+      accepts = sym rows ∙ z
 
       pub request-good : Good (n + 1) v
-      request-good = changed-good (Request c s m f l) n (n + 1) t v G (sym rows ∙ z) changed
+      request-good = record {
+        shape = K .shape;
+        sounds = subst (λ (Y : Table). T (sound Y)) (sym changed) (change-keeps X asks (G .sounds) (eq→eqb (firstHit (rules X asks)) 0 accepts));
+      }
 
-      pub request-served : (r : Answer) (b w d : List ℕ) → Ends (n + 1) (tableOf width v) (e + 1) b r w d → Leaves (serve (tableOf width t) (Request c s m f l)) t b r w d
-      unfolding answered
-      request-served r b w d E = changed-served (Request c s m f l) n (n + 1) t v G (sym rows ∙ z) changed (e + 1) r b w d (ap (λ (j : ℕ). j + 1) q) E
+      pub request-served : (r : Answer) (b w d : List ℕ) → Ends (e + 1) (tableOf width v) b r w d → OnSound (Request c s m f l) t b r w d
+      unfolding serve answered
+      request-served r b w d E =
+          served-accepted (rules X asks) (answered X asks) (change X asks) t b r w d accepts
+          (ends-at (X .issued + 1) (change X asks) (tableOf width v) b r w d changed (subst (λ (j : ℕ). Ends (j + 1) (tableOf width v) b r w d) q E))

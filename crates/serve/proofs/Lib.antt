@@ -1,5 +1,6 @@
 pub mod Judged
 pub mod Ending
 pub mod Asking
+pub mod Alone
+pub mod Finding
 pub mod Naming
-pub mod Named

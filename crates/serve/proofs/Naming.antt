@@ -1,129 +1,155 @@
--- A message that names a record: handles rise, so the record at the place of the handle is the only one that any of its tests can pass.
-use Prim.Native.Nat.{ℕ, suc, _≤_, _<_}
+-- Acknowledge, downgrade and release: refused by their rows, or the one record that they name changes as the rules say.
+use Prim.Native.Nat.{ℕ, _-_, _<_}
+use native.Mathlib.Numerals.{add-one}
 use native.Mathlib.Omega.{arith}
 use mathlib.Core.Bool.{Bool, true, false, not, _&&_, cond}
-use mathlib.Core.List.{List, [], _∷_, _++_, map}
-use mathlib.Core.Logic.{_⊎_, ⊎-elim}
-use mathlib.Core.Path.{_≡_, sym, ap, subst, _∙_}
-use lib.Dec.{T, not-T, eqb, ltb, leb, eqb→eq, ltb→lt}
-use lib.ListN.{set, take, drop}
-use lib.Seq.{split-at, set-split, take-all}
-use borrow.Author.Tests.{leb-false, le-leb, lt-leb, not-false}
+use mathlib.Core.List.{List, _++_, map}
+use mathlib.Core.Path.{_≡_, refl, sym, ap, subst, _∙_}
+use lib.Dec.{T, eqb}
+use lib.ListN.{length, take, drop}
 use Rattle.common.specs.Counters.{width}
-use Rattle.common.specs.Refusals.{rule, firstHit}
-use Rattle.common.specs.Tests.{all, any, keep, pairs}
-use Rattle.common.proofs.Bools.{and-l, true-is}
-use Rattle.common.proofs.Listed.{all-imp, pairs-before, pairs-after}
-use Rattle.common.proofs.Lone.{no, lone-any, lone-keep, lone-map}
-use Rattle.common.proofs.Order.{below}
-use Rattle.common.proofs.Refusals.{hit}
+use Rattle.common.specs.Ranges.{within}
+use Rattle.common.specs.Refusals.{firstHit}
+use Rattle.common.proofs.Bools.{and-l, and-both, and-false, true-is}
+use Rattle.common.proofs.Order.{eq→eqb}
+use Rattle.modes.specs.Codes.{asked, canceling, bw, pw}
 use Rattle.table.specs.declared.Lock.{Lock}
-use Rattle.table.specs.Table.{handleOf, blank, nth, maxClient}
-use Rattle.table.specs.Sound.{agree, differ, share}
+use Rattle.table.specs.Table.{Table, nth}
+use Rattle.table.specs.Sound.{sound}
 use Rattle.table.specs.Bytes.{locksOf, tableOf}
-use Rattle.table.proofs.Facts.{sound→}
+use Rattle.table.specs.Places.{lockAt, FitsTable, Holds, withLock, withLocks, without}
 use Rattle.table.proofs.Records.{locks-length}
-use Rattle.locks.specs.Refusals.{named, namingRules}
-use Rattle.settle.specs.Posts.{Good, First}
-use Rattle.settle.proofs.Scan.{inside}
-use Rattle.serve.specs.Serves.{has, placeRules}
+use Rattle.locks.specs.declared.Message.{Message}
+use Rattle.locks.specs.declared.Message.the-variants.{Acknowledge, Downgrade, Release}
+use Rattle.locks.specs.Settle.{inState}
+use Rattle.locks.specs.Refusals.{named, namingRules, rules}
+use Rattle.locks.specs.Serve.{downgraded, change, answered, serve}
+use Rattle.locks.proofs.Served.{change-keeps}
+use Rattle.settle.specs.Posts.{Good}
+use Rattle.settle.proofs.Scan.{inside, nth-is}
+use Rattle.serve.specs.declared.Answer.{Answer}
+use Rattle.serve.specs.declared.Found.{Found}
+use Rattle.serve.specs.Posts.{OnSound, Ends, Finds}
+use Rattle.serve.proofs.Ending.{holds-good, ends-at, served-refused, served-accepted}
+use Rattle.serve.proofs.Alone.{one-keep, one-map}
+use Rattle.serve.proofs.Finding.{has-named, found-none, found-one}
 
-rises : (a b : Lock) → T (agree a b) → handleOf a < handleOf b
-unfolding agree
-rises a b t = ltb→lt (handleOf a) (handleOf b) (and-l (ltb (handleOf a) (handleOf b)) (differ a b && share a b) t)
+-- m is a message of the client c on the handle h, and `may` is what 11 asks
+pub record Names (m : Message) (c h : ℕ) (may : Lock → Bool) : Type 0 where
+  rows : (X : Table) → rules X m ≡ namingRules X c h may
+  strong : (r : Lock) → T (may r) → T (named c h r)
+  says : (X : Table) → answered X m ≡ h
 
-module _ (n i h : ℕ) (t : List ℕ) (G : Good n t) (F : First (has h) n (locksOf width t) i) where
-  abbrev rs : List Lock
-  rs = locksOf width t
+-- of the client's record 11 asks `test`, and the message's change makes `make` of it
+pub record Makes (m : Message) (c h : ℕ) (test : Lock → Bool) (make : Lock → Lock) : Type 0 where
+  pub names : Names m c h (λ r. named c h r && test r)
+  changes : (X : Table) → change X m ≡ withLocks X (map (λ r. cond (named c h r && test r) (make r) r) (X .locks))
 
-  abbrev x : Lock
-  x = nth (tableOf width t) i
+module _ (c h : ℕ) where
+  pub acknowledges : Makes (Acknowledge c h) c h (λ r. eqb (r .state) asked) (inState canceling)
+  unfolding rules answered change
+  acknowledges = record {
+    names = record { rows = λ X. refl; strong = λ r u. and-l (named c h r) (eqb (r .state) asked) u; says = λ X. refl };
+    changes = λ X. refl;
+  }
 
-  nobody-has : n ≤ i → any (has h) rs ≡ false
-  nobody-has q = ap (any (has h)) (sym (take-all i rs (let l = locks-length t in let c = G .shape .count in omega arith))) ∙ F .past .none
+  pub downgrades : Makes (Downgrade c h) c h (λ r. eqb (r .state) canceling && within bw (r .mode) pw) downgraded
+  unfolding rules answered change
+  downgrades = record {
+    names = record { rows = λ X. refl; strong = λ r u. and-l (named c h r) (eqb (r .state) canceling && within bw (r .mode) pw) u; says = λ X. refl };
+    changes = λ X. refl;
+  }
 
-  module _ (q : i < n) where
-    abbrev before : List Lock
-    before = take i rs
+  pub releases : Names (Release c h) c h (named c h)
+  unfolding rules answered
+  releases = record { rows = λ X. refl; strong = λ r u. u; says = λ X. refl }
 
-    abbrev after : List Lock
-    after = drop (suc i) rs
+module _ (n c h : ℕ) (t : List ℕ) (G : Good n t) (f : Found) (F : Finds n (tableOf width t) c h f) where
+  abbrev X : Table
+  X = tableOf width t
 
-    cut : rs ≡ before ++ (x ∷ after)
-    cut = split-at rs i blank (inside n i t (G .shape) q)
+  long : length (X .locks) ≡ n
+  long = locks-length t ∙ G .shape .count
 
-    apart : T (pairs agree (before ++ (x ∷ after)))
-    apart = subst (λ (l : List Lock). T (pairs agree l)) cut (sound→ (tableOf width t) (G .sounds) .apart)
+  module _ (m : Message) (may : Lock → Bool) (N : Names m c h may) where
+    by-rows : (k : ℕ) → k ≡ firstHit (namingRules X c h may) → k ≡ firstHit (rules X m)
+    by-rows k e = e ∙ sym (ap firstHit (N .rows X))
 
-    -- a test that only a record with the handle can pass
-    module _ (p : Lock → Bool) (only : (r : Lock) → T (p r) → T (has h r)) where
-      lower : T (all (no p) before)
-      lower =
-          all-imp (λ y. agree y x) (no p)
-          (λ y a. not-T (p y) (λ u. let e = eqb→eq (handleOf y) h (only y u) in let f = eqb→eq (handleOf x) h (F .here q) in omega (arith, rises y x a)))
-          before (pairs-before agree before x after apart)
+    pub naming-refused : (b : List ℕ) (r : Answer) → (f .refusal ≡ 0 → ⊥) → r ≡ record { refusal = f .refusal; handle = 0; events = 0 } → OnSound m t b r t b
+    unfolding serve
+    naming-refused b r z q = served-refused (rules X m) (answered X m) (change X m) t b r (f .refusal) (by-rows (f .refusal) (found-none n c h X f F may z)) z q
 
-      higher : T (all (no p) after)
-      higher =
-          all-imp (agree x) (no p)
-          (λ y a. not-T (p y) (λ u. let e = eqb→eq (handleOf y) h (only y u) in let f = eqb→eq (handleOf x) h (F .here q) in omega (arith, rises x y a)))
-          after (pairs-after agree before x after apart)
+  -- the record is there
+  module _ (z : f .refusal ≡ 0) where
+    abbrev i : ℕ
+    i = f .place
 
-      pub one-any : any p rs ≡ p x
-      one-any = ap (any p) cut ∙ lone-any p before x after lower higher
+    pub is-there : i < n
+    is-there = F .inside z
 
-      pub one-keep : p x ≡ true → keep (no p) rs ≡ before ++ after
-      one-keep e = ap (keep (no p)) cut ∙ lone-keep p before x after lower higher e
+    its : named c h (nth X i) ≡ true
+    its = true-is (named c h (nth X i)) (F .its z)
 
-      pub one-map : (f : Lock → Lock) → p x ≡ true → map (λ y. cond (p y) (f y) y) rs ≡ set rs i (f x)
-      one-map f e =
-          ap (map (λ y. cond (p y) (f y) y)) cut ∙ lone-map p before x after lower higher f e ∙ sym (set-split rs i (f x) (inside n i t (G .shape) q))
+    module _ (m : Message) (may : Lock → Bool) (N : Names m c h may) where
+      by-11 : (x : Bool) → may (nth X i) ≡ x → cond (not x) 11 0 ≡ firstHit (rules X m)
+      by-11 x e = by-rows m may N (cond (not x) 11 0) (ap (λ (y : Bool). cond (not y) 11 0) (sym e) ∙ sym (found-one n c h X f F may (G .sounds) long (N .strong) z))
 
-    pub it-has : has h x ≡ true
-    it-has = true-is (has h x) (F .here q)
+      -- and the message may change it
+      module _ (y : may (nth X i) ≡ true) where
+        sounds : T (sound (change X m))
+        sounds = change-keeps X m (G .sounds) (eq→eqb (firstHit (rules X m)) 0 (sym (by-11 true y)))
 
-  -- the place is known, and so the rows up to 10
-  module _ (c : ℕ) (may : Lock → Bool) (strong : (r : Lock) → T (may r) → T (named c h r)) where
-    named-has : (r : Lock) → T (named c h r) → T (has h r)
-    named-has r u = and-l (has h r) (eqb (r .client) c) u
+        serves : (b : List ℕ) (r : Answer) (u v : List ℕ) → Ends h (change X m) b r u v → OnSound m t b r u v
+        unfolding serve
+        serves b r u v E = served-accepted (rules X m) (answered X m) (change X m) t b r u v (sym (by-11 true y)) (subst (λ (k : ℕ). Ends k (change X m) b r u v) (sym (N .says X)) E)
 
-    may-has : (r : Lock) → T (may r) → T (has h r)
-    may-has r u = named-has r (strong r u)
+    -- l is the record, of which m makes another
+    module _ (l : Lock) (e : l ≡ lockAt t i) (m : Message) (test : Lock → Bool) (make : Lock → Lock) (M : Makes m c h test make) where
+      abbrev may : Lock → Bool
+      may r = named c h r && test r
 
-    rows-there : i < n → firstHit (namingRules (tableOf width t) c h may)
-        ≡ firstHit (rule 3 (ltb maxClient c) ∷ rule 9 false ∷ rule 10 (not (eqb (x .client) c)) ∷ rule 11 (not (may x)) ∷ [])
-    rows-there q = rw (one-any q (has h) (λ r u. u), one-any q (named c h) named-has, one-any q may may-has, it-has q)
+      it : nth X i ≡ l
+      it = nth-is n i t l (G .shape) is-there e
 
-    module _ (k : ℕ) (p : k ≡ firstHit (placeRules (tableOf width t) n i c)) where
-      pub place-refused : (k ≡ 0 → ⊥) → k ≡ firstHit (namingRules (tableOf width t) c h may)
-      place-refused z =
-          ⊎-elim
-          (λ (q : i < n). rw (rows-there q) (there (ltb maxClient c) (eqb (x .client) c) (may x) (rw (lt-leb n i q) at p)))
-          (λ (q : n ≤ i). rw (nobody-has q) (rw (le-leb n i q) at p))
-          (below i n)
-        where
-          there : (a d e : Bool) → k ≡ cond a 3 (cond (not d) 10 0) → k ≡ cond a 3 (cond (not d) 10 (cond (not e) 11 0))
-          there true d e f = f
-          there false false e f = f
-          there false true e f = absurd (z f)
+      tested : (x : Bool) → test l ≡ x → test (nth X i) ≡ x
+      tested x p = ap test it ∙ p
 
-      -- no row up to 10 hits: what is known then
-      module _ (z : k ≡ 0) where
-        kept : (ltb maxClient c ≡ false) × (leb n i ≡ false) × (not (eqb (x .client) c) ≡ false)
-        kept =
-            let a = hit 2 (ltb maxClient c) (rule 9 (leb n i) ∷ rule 10 (not (eqb (x .client) c)) ∷ []) (sym p ∙ z) in
-            let b = hit 8 (leb n i) (rule 10 (not (eqb (x .client) c)) ∷ []) (a .1) in
-            let d = hit 9 (not (eqb (x .client) c)) [] (b .1) in
-            (a .0, b .0, d .0)
+      pub naming-11 : (b : List ℕ) (r : Answer) → test l ≡ false → r ≡ record { refusal = 11; handle = 0; events = 0 } → OnSound m t b r t b
+      unfolding serve
+      naming-11 b r p q =
+          served-refused (rules X m) (answered X m) (change X m) t b r 11
+          (by-11 m may (M .names) false (ap (λ (x : Bool). named c h (nth X i) && x) (tested false p) ∙ and-false (named c h (nth X i)))) (λ (w : _≡_ {A = ℕ} 11 0). omega arith) q
 
-        pub there-is : i < n
-        there-is = leb-false n i (kept .1)
+      module _ (p : test l ≡ true) (q : Lock) (d : q ≡ make l) where
+        allowed : may (nth X i) ≡ true
+        allowed = and-both (named c h (nth X i)) (test (nth X i)) its (tested true p)
 
-        pub is-named : named c h x ≡ true
-        is-named = rw (it-has there-is) (not-false (eqb (x .client) c) (kept .2))
+        made : change X m ≡ withLock X i q
+        made =
+            M .changes X
+            ∙ ap (withLocks X) (one-map X i h (G .sounds) (inside n i t (G .shape) is-there) (has-named c h (nth X i) (F .its z)) may (λ r u. has-named c h r (M .names .strong r u)) make allowed)
+            ∙ ap (withLock X i) (ap make it ∙ sym d)
 
-        pub may-not : may x ≡ false → 11 ≡ firstHit (namingRules (tableOf width t) c h may)
-        may-not e = rw (rows-there there-is, kept .0, kept .2, e)
+        pub made-sound : T (sound (withLock X i q))
+        made-sound = subst (λ (Y : Table). T (sound Y)) made (sounds m may (M .names) allowed)
 
-        pub may-do : may x ≡ true → 0 ≡ firstHit (namingRules (tableOf width t) c h may)
-        may-do e = rw (rows-there there-is, kept .0, kept .2, e)
+        pub made-served : (b : List ℕ) (r : Answer) (u v : List ℕ) → Ends h (withLock X i q) b r u v → OnSound m t b r u v
+        made-served b r u v E = serves m may (M .names) allowed b r u v (ends-at h (change X m) (withLock X i q) b r u v (sym made) E)
+
+    -- the record is removed, which leaves u
+    module _ (u : List ℕ) (H : Holds (n - 1) (withLocks X (without i (locksOf width t))) u) where
+      gone : tableOf width u ≡ change X (Release c h)
+      unfolding change
+      gone =
+          H .says
+          ∙ ap (withLocks X) (ap (λ (j : ℕ). take i (locksOf width t) ++ drop j (locksOf width t)) (add-one i)
+          ∙ sym (one-keep X i h (G .sounds) (inside n i t (G .shape) is-there) (has-named c h (nth X i) (F .its z)) (named c h) (has-named c h) its))
+
+      pub gone-good : Good (n - 1) u
+      gone-good = record { shape = H .shape; sounds = subst (λ (Y : Table). T (sound Y)) (sym gone) (sounds (Release c h) (named c h) (releases c h) its) }
+
+      pub gone-served : (b : List ℕ) (r : Answer) (v d : List ℕ) → Ends h (tableOf width u) b r v d → OnSound (Release c h) t b r v d
+      gone-served b r v d E = serves (Release c h) (named c h) (releases c h) its b r v d (ends-at h (change X (Release c h)) (tableOf width u) b r v d gone E)
+
+pub down-fits : (l q : Lock) → q ≡ downgraded l → FitsTable l → FitsTable q
+down-fits l q e f = rw e (record { handle = f .handle; client = f .client; stripe = f .stripe; mode = omega arith; state = f .state; number = f .number })

@@ -1,4 +1,4 @@
-// One message on the bytes of a sound table: its refusals, its own change, and the settling.
+// A call on the bytes of a sound table: its refusals, its own change, and the settling. The four messages are such calls.
 use common::EOF;
 use common::HIGHEST;
 use common::Handle;
@@ -16,17 +16,19 @@ use table::MAX_RECORDS;
 use table::MAX_STRIPE;
 ghost use mathlib.Core.Path.{_≡_};
 ghost use Prim.Native.Nat.{_≤_, _<_};
+ghost use lib.Dec.{T};
 ghost use lib.ListN.{length};
 ghost use Rattle.common.specs.Counters.{width};
 ghost use Rattle.common.specs.Refusals.{firstHit};
 ghost use Rattle.table.specs.Bytes.{locksOf, tableOf};
-ghost use Rattle.table.specs.Places.{countOf, Shape};
+ghost use Rattle.table.specs.Sound.{sound};
+ghost use Rattle.table.specs.Places.{countOf, FitsTable, Shape, withLock};
 ghost use Rattle.locks.specs.declared.Message.the-variants.{Request, Acknowledge, Downgrade, Release};
 ghost use Rattle.locks.specs.Refusals.{requestRules};
-ghost use Rattle.locks.specs.Serve.{serve, downgraded};
+ghost use Rattle.locks.specs.Serve.{downgraded};
 ghost use Rattle.locks.specs.Events.{eventsSize};
 ghost use Rattle.settle.specs.Posts.{Good, First};
-ghost use Rattle.serve.specs.Serves.{Leaves, Ends, has, placeRules};
+ghost use Rattle.serve.specs.Posts.{OnSound, Ends, has, Finds};
 
 // What a call answers: its refusal or 0, the handle that it made or named, and how many events it wrote.
 #[repr(C)]
@@ -50,7 +52,7 @@ pub fn refused(k: u64) -> Answer
 // Settles the changed table and answers the handle h.
 fn finish(t: &mut [u8], b: &mut [u8], n: usize, h: Handle) -> Answer
     requires { ⌜ Good n (now t) × (eventsSize width ≤ length (now b)) ⌝ }
-    ensures { λ r. ⌜ Ends n (tableOf width (now (t .entry))) (h .0) (now (b .entry)) r (now (t .exit)) (now (b .exit)) ⌝ }
+    ensures { λ r. ⌜ Ends (h .0) (tableOf width (now (t .entry))) (now (b .entry)) r (now (t .exit)) (now (b .exit)) ⌝ }
 {
     let k = settle::settle(t, b, n);
     Answer {
@@ -106,7 +108,7 @@ fn request(
     last: u64,
 ) -> Answer
     requires { ⌜ Good n (now t) × (eventsSize width ≤ length (now b)) ⌝ }
-    ensures { λ r. ⌜ Leaves (serve (tableOf width (now (t .entry))) (Request client stripe mode first last)) (now (t .entry)) (now (b .entry)) r (now (t .exit)) (now (b .exit)) ⌝ }
+    ensures { λ r. ⌜ OnSound (Request client stripe mode first last) (now (t .entry)) (now (b .entry)) r (now (t .exit)) (now (b .exit)) ⌝ }
 {
     let k = request_refusal(t, n, client, stripe, mode, first, last);
     if k != 0 {
@@ -141,40 +143,73 @@ fn find(t: &[u8], n: usize, h: Handle) -> usize
     n
 }
 
-// Judges a client's message on the record at place i by 3, 9 and 10.
-fn place_refusal(t: &[u8], n: usize, i: usize, client: u64) -> u64
-    requires { ⌜ Shape n (now t) ⌝ }
-    ensures { λ r. ⌜ r ≡ firstHit (placeRules (tableOf width (now (t .entry))) n i client) ⌝ }
+// What a client's message on a handle finds: its refusal by 3, 9 and 10, or 0 and the place of its record.
+struct Found {
+    refusal: u64,
+    place: usize,
+}
+
+// Finds the client's record with the handle.
+fn named(t: &[u8], n: usize, client: u64, handle: Handle) -> Found
+    requires { ⌜ Good n (now t) ⌝ }
+    ensures { λ r. ⌜ Finds n (tableOf width (now (t .entry))) client (handle .0) r ⌝ }
 {
     if MAX_CLIENT < client {
-        return 3;
+        return Found {
+            refusal: 3,
+            place: 0,
+        };
     }
+    let i = find(t, n, handle);
     if n <= i {
-        return 9;
+        return Found {
+            refusal: 9,
+            place: 0,
+        };
     }
     let l = table::lock_at(t, i);
     if l.client != client {
-        return 10;
+        return Found {
+            refusal: 10,
+            place: 0,
+        };
     }
-    0
+    Found {
+        refusal: 0,
+        place: i,
+    }
+}
+
+// Stores l at place i, and settles.
+fn replace(t: &mut [u8], b: &mut [u8], n: usize, i: usize, l: Lock, h: Handle) -> Answer
+    requires { ⌜ Shape n (now t) × (i < n) × FitsTable l × T (sound (withLock (tableOf width (now t)) i l)) × (eventsSize width ≤ length (now b)) ⌝ }
+    ensures { λ r. ⌜ Ends (h .0) (withLock (tableOf width (now (t .entry))) i l) (now (b .entry)) r (now (t .exit)) (now (b .exit)) ⌝ }
+{
+    table::put_lock(t, n, i, l);
+    finish(t, b, n, h)
 }
 
 // Makes an asked record canceling, and settles.
 fn acknowledge(t: &mut [u8], b: &mut [u8], n: usize, client: u64, handle: Handle) -> Answer
     requires { ⌜ Good n (now t) × (eventsSize width ≤ length (now b)) ⌝ }
-    ensures { λ r. ⌜ Leaves (serve (tableOf width (now (t .entry))) (Acknowledge client (handle .0))) (now (t .entry)) (now (b .entry)) r (now (t .exit)) (now (b .exit)) ⌝ }
+    ensures { λ r. ⌜ OnSound (Acknowledge client (handle .0)) (now (t .entry)) (now (b .entry)) r (now (t .exit)) (now (b .exit)) ⌝ }
 {
-    let i = find(t, n, handle);
-    let k = place_refusal(t, n, i, client);
-    if k != 0 {
-        return refused(k);
+    let f = named(t, n, client, handle);
+    if f.refusal != 0 {
+        return refused(f.refusal);
     }
-    let l = table::lock_at(t, i);
+    let l = table::lock_at(t, f.place);
     if l.state != ASKED {
         return refused(11);
     }
-    table::put_lock(t, n, i, settle::given(l, CANCELING, l.number, l.last));
-    finish(t, b, n, handle)
+    replace(
+        t,
+        b,
+        n,
+        f.place,
+        settle::given(l, CANCELING, l.number, l.last),
+        handle,
+    )
 }
 
 // Makes of l the same record in mode NBW.
@@ -198,39 +233,36 @@ fn downgraded(l: Lock) -> Lock
 // Makes a canceling BW or PW record an NBW record, and settles.
 fn downgrade(t: &mut [u8], b: &mut [u8], n: usize, client: u64, handle: Handle) -> Answer
     requires { ⌜ Good n (now t) × (eventsSize width ≤ length (now b)) ⌝ }
-    ensures { λ r. ⌜ Leaves (serve (tableOf width (now (t .entry))) (Downgrade client (handle .0))) (now (t .entry)) (now (b .entry)) r (now (t .exit)) (now (b .exit)) ⌝ }
+    ensures { λ r. ⌜ OnSound (Downgrade client (handle .0)) (now (t .entry)) (now (b .entry)) r (now (t .exit)) (now (b .exit)) ⌝ }
 {
-    let i = find(t, n, handle);
-    let k = place_refusal(t, n, i, client);
-    if k != 0 {
-        return refused(k);
+    let f = named(t, n, client, handle);
+    if f.refusal != 0 {
+        return refused(f.refusal);
     }
-    let l = table::lock_at(t, i);
+    let l = table::lock_at(t, f.place);
     if !((l.state == CANCELING) & ((BW <= l.mode) & (l.mode <= PW))) {
         return refused(11);
     }
-    table::put_lock(t, n, i, downgraded(l));
-    finish(t, b, n, handle)
+    replace(t, b, n, f.place, downgraded(l), handle)
 }
 
 // Removes a record, or withdraws a request, and settles.
 fn release(t: &mut [u8], b: &mut [u8], n: usize, client: u64, handle: Handle) -> Answer
     requires { ⌜ Good n (now t) × (eventsSize width ≤ length (now b)) ⌝ }
-    ensures { λ r. ⌜ Leaves (serve (tableOf width (now (t .entry))) (Release client (handle .0))) (now (t .entry)) (now (b .entry)) r (now (t .exit)) (now (b .exit)) ⌝ }
+    ensures { λ r. ⌜ OnSound (Release client (handle .0)) (now (t .entry)) (now (b .entry)) r (now (t .exit)) (now (b .exit)) ⌝ }
 {
-    let i = find(t, n, handle);
-    let k = place_refusal(t, n, i, client);
-    if k != 0 {
-        return refused(k);
+    let f = named(t, n, client, handle);
+    if f.refusal != 0 {
+        return refused(f.refusal);
     }
-    table::remove(t, n, i);
+    table::remove(t, n, f.place);
     finish(t, b, n - 1, handle)
 }
 
 // Serves one message.
 pub fn serve(t: &mut [u8], b: &mut [u8], m: Message) -> Answer
     requires { ⌜ Good (countOf (now t)) (now t) × (eventsSize width ≤ length (now b)) ⌝ }
-    ensures { λ r. ⌜ Leaves (serve (tableOf width (now (t .entry))) m) (now (t .entry)) (now (b .entry)) r (now (t .exit)) (now (b .exit)) ⌝ }
+    ensures { λ r. ⌜ OnSound m (now (t .entry)) (now (b .entry)) r (now (t .exit)) (now (b .exit)) ⌝ }
 {
     let n = table::count(t);
     match m {
