@@ -205,7 +205,7 @@ def main():
     parser.add_argument("--kills", type=int, default=300)
     parser.add_argument("--seconds", type=float, default=60)
     parser.add_argument("--only-the-end", action="store_true")
-    parser.add_argument("daemon", nargs="+")
+    parser.add_argument("daemon", nargs=argparse.REMAINDER)
     options = parser.parse_args()
     print(f"kills: seed {options.seed}", file=sys.stderr)
     chance, seen, runs, begun = random.Random(options.seed), Counter(), 0, time.perf_counter()

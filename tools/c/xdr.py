@@ -257,7 +257,7 @@ def picture(caller):
 def main():
     parser = argparse.ArgumentParser()
     parser.add_argument("--seed", type=int, default=int.from_bytes(os.urandom(4), "big"))
-    parser.add_argument("caller", nargs="+")
+    parser.add_argument("caller", nargs=argparse.REMAINDER)
     options = parser.parse_args()
     print(f"xdr: seed {options.seed}", file=sys.stderr)
     chance, caller = random.Random(options.seed), Caller(options.caller)
