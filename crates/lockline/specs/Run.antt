@@ -1,7 +1,8 @@
 -- THE PROGRAM AS A WHOLE. A run reads its input in pieces, cut in any way. What is left of a piece goes to `feed`, until nothing is left of it; then
 -- the next is read; at the end of the input comes `end`. What these put down is written, one after the other. Each input has a run, however it is
 -- cut, and each run of it writes `written` of it: the answers to its lines, on one table from empty.
--- No contract can say what a program reads or writes: that the loops around `feed` and `end` make such a run is seen in src/main.rt.
+-- No contract can say what a program reads or writes: that the loops around `feed` and `end` make such a run, while no write fails and in fewer
+-- than 2^64 reads, is seen in src/main.rt.
 use Prim.Native.Nat.{ℕ, _+_, _<_}
 use mathlib.Core.Path.{_≡_}
 use mathlib.Core.List.{List, [], _∷_, _++_}

@@ -1,6 +1,6 @@
 -- One byte followed through a run. The thought: once a byte has its greatest age N, what stands there is right, or an accepted write of a piece of
 -- age N is still to come; a cut write is followed by another of its piece.
-use Prim.Native.Nat.{ℕ, _+_, _≤_}
+use Prim.Native.Nat.{ℕ, _≤_}
 use native.Mathlib.Omega.{arith}
 use mathlib.Core.Path.{_≡_, refl, sym, _∙_, ap, subst}
 use mathlib.Core.Logic.{_⊎_, inl, inr, ⊎-elim}
@@ -77,8 +77,8 @@ pub step :
     → ((q : Piece) → HasWrite q (ws ++ rest) → Covers q b → ageOf q ≡ N → byteOf q b ≡ v) → Start b N v s (ws ++ rest) → Start b N v s′ rest
 step b N v s s′ ns ws rest (quiet i o) n f a (inl w) = inl (ap (λ (x : List ℕ). getD x b 0) i ∙ w .0, ap (λ (l : List Run). owner l b) o ∙ w .1)
 step b N v s s′ ns ws rest (quiet i o) n f a (inr w) = inr w
-step b N v s s′ ns ws rest (new p i o) n f a (inl w) = inl (ap (λ (x : List ℕ). getD x b 0) i ∙ w .0, omega (arith, o b, w .1))
-step b N v s s′ ns ws rest (new p i o) n f a (inr w) = inr w
+step b N v s s′ ns ws rest (new p i l o) n f a (inl w) = inl (ap (λ (x : List ℕ). getD x b 0) i ∙ w .0, omega (arith, o b, w .1))
+step b N v s s′ ns ws rest (new p i l o) n f a (inr w) = inr w
 step b N v s s′ ns ws rest (wrote p c W) n f a (inl w) =
     ⊎-elim
     (λ (k : Covers p b). ⊎-elim

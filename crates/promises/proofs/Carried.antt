@@ -30,14 +30,11 @@ use Rattle.gilboreth.specs.Note.{noteAnswer, noteMap, noteLog}
 use Rattle.gilboreth.specs.Restart.{restartAnswer, restartMap}
 use Rattle.stripe.proofs.Accepted.{NoteFacts, facts-restart}
 use Rattle.promises.specs.Logged.{Appends, Raises}
-use Rattle.promises.specs.Run.{Piece, size, Map, lost, live, Stripe, EmptyLog, begin, Step, note, noteCut, write, writeCut, restart, cut, noteOk, afterNote, afterWrite, scrambled, next}
+use Rattle.promises.specs.Run.{Piece, size, placeOf, Map, lost, live, Stripe, EmptyLog, begin, Step, note, noteCut, write, writeCut, restart, cut, noteOk, afterNote, afterWrite, scrambled, next}
 use Rattle.promises.proofs.Logged.{accepted, appends, raises}
 
 abbrev pub entriesOf : Stripe → List Run
 entriesOf s = runsOf width (s .log)
-
-abbrev pub placeOf : Piece → Run
-placeOf p = place (p .first) (size p) (p .number)
 
 abbrev pub IsMap : Map → List ℕ → Type 0
 IsMap lost log = Unit {0}

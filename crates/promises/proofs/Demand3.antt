@@ -1,14 +1,14 @@
 -- Demand 3, proved over the outcomes that the entries' contracts cite.
-use Prim.Native.Nat.{ℕ, _+_, _≤_, max}
+use Prim.Native.Nat.{ℕ, _≤_, max}
 use native.Mathlib.Omega.{arith}
 use mathlib.Core.Path.{_≡_, refl, sym, _∙_, ap, subst}
 use mathlib.Core.Logic.{inl, inr, ⊎-elim}
-use mathlib.Core.List.{List, [], _∷_, _++_}
+use mathlib.Core.List.{List, [], _∷_, _++_, map, map-append, append-assoc, append-nil}
 use lib.ListN.{length, getD}
 use Rattle.runs.specs.declared.Run.{Run}
 use Rattle.runs.specs.Owner.{owner}
 use Rattle.runs.proofs.Blank.{none-counted}
-use Rattle.promises.specs.Run.{Piece, ageOf, Covers, byteOf, Map, lost, live, Stripe, begin, Step, next, after, notes, noted, Write, writes, accepted}
+use Rattle.promises.specs.Run.{Piece, ageOf, Covers, byteOf, placeOf, Map, lost, live, Stripe, begin, Step, next, after, notes, noted, Write, writes, accepted}
 use Rattle.promises.specs.Among.{Among}
 use Rattle.promises.specs.Demand3.{HasWrite, Finished, Demand3, LogsMap, Steady, Always}
 use Rattle.promises.proofs.Carried.{entriesOf, IsMap, Carried, carried, begin-carried, restarts}
@@ -25,7 +25,7 @@ top (p ∷ ps) b = max (given p b) (top ps b)
 bound : (s s′ : Stripe) (ns ps : List Piece) (ws : List Write) (b N : ℕ) → View s s′ ns ws → owner (entriesOf s) b ≤ N → top (ns ++ ps) b ≤ N → (owner (entriesOf s′) b ≤ N) × (top ps b ≤ N)
 unfolding top
 bound s s′ ns ps ws b N (quiet i o) h k = (subst (λ (l : List Run). owner l b ≤ N) (sym o) h, k)
-bound s s′ ns ps ws b N (new p i o) h k = (omega (arith, o b), omega arith)
+bound s s′ ns ps ws b N (new p i l o) h k = (omega (arith, o b), omega arith)
 bound s s′ ns ps ws b N (wrote p c W) h k = (subst (λ (l : List Run). owner l b ≤ N) (sym (W .log)) h, k)
 
 -- a byte under a written piece of the greatest age N
@@ -45,7 +45,7 @@ under (e ∷ es) s b N v g h k f a w =
 -- a byte under no noted piece
 kept-step : (s s′ : Stripe) (ns : List Piece) (ws : List Write) (b : ℕ) → View s s′ ns ws → owner (entriesOf s) b ≤ 0 → getD (s′ .image) b 0 ≡ getD (s .image) b 0
 kept-step s s′ ns ws b (quiet i o) z = ap (λ (x : List ℕ). getD x b 0) i
-kept-step s s′ ns ws b (new p i o) z = ap (λ (x : List ℕ). getD x b 0) i
+kept-step s s′ ns ws b (new p i l o) z = ap (λ (x : List ℕ). getD x b 0) i
 kept-step s s′ ns ws b (wrote p c W) z = W .kept b (λ k o. omega (arith, W .some))
 
 other : (es : List Step) (s : Stripe) (b : ℕ) → Carried s → owner (entriesOf s) b ≤ 0 → top (noted s es) b ≤ 0 → getD (after s es .image) b 0 ≡ getD (s .image) b 0
@@ -58,7 +58,7 @@ other (e ∷ es) s b g h k =
 
 long-step : (s s′ : Stripe) (ns : List Piece) (ws : List Write) → View s s′ ns ws → length (s′ .image) ≡ length (s .image)
 long-step s s′ ns ws (quiet i o) = ap length i
-long-step s s′ ns ws (new p i o) = ap length i
+long-step s s′ ns ws (new p i l o) = ap length i
 long-step s s′ ns ws (wrote p c W) = W .long
 
 long : (es : List Step) (s : Stripe) → Carried s → length (after s es .image) ≡ length (s .image)
@@ -95,12 +95,31 @@ unfolding after
 run-carried [] s C = C
 run-carried (e ∷ es) s C = run-carried es (next s e) (carried s e C)
 
-steady : (s : Stripe) → Carried s → Steady s
-steady s C = record { map = go (s .map) (C .map); restarts = λ buffer h. restarts buffer (s .log) (C .log) h }
+grown-step : (s s′ : Stripe) (ns : List Piece) (ws : List Write) → View s s′ ns ws → entriesOf s′ ≡ entriesOf s ++ map placeOf ns
+grown-step s s′ ns ws (quiet i o) = o ∙ sym (append-nil (entriesOf s))
+grown-step s s′ ns ws (new p i l o) = l
+grown-step s s′ ns ws (wrote p c W) = W .log ∙ sym (append-nil (entriesOf s))
+
+grown : (es : List Step) (s : Stripe) → Carried s → entriesOf (after s es) ≡ entriesOf s ++ map placeOf (noted s es)
+unfolding after noted
+grown [] s g = sym (append-nil (entriesOf s))
+grown (e ∷ es) s g =
+    let t : Stripe = next s e in
+    let ps : List Piece = noted t es in
+    grown es t (carried s e g)
+    ∙ ap (λ (l : List Run). l ++ map placeOf ps) (grown-step s t (notes s e) (writes s e) (view s e g))
+    ∙ append-assoc (entriesOf s) (map placeOf (notes s e)) (map placeOf ps)
+    ∙ ap (λ (l : List Run). entriesOf s ++ l) (sym (map-append placeOf (notes s e) ps))
+
+steady : (ps : List Piece) (s : Stripe) → Carried s → entriesOf s ≡ map placeOf ps → Steady ps s
+steady ps s C e = record { log = e; map = go (s .map) (C .map); restarts = λ buffer h. restarts buffer (s .log) (C .log) h }
   where
     go : (m : Map) → IsMap m (s .log) → LogsMap m (s .log)
     go lost M = tt
     go (live m) M = (M .0, M .2)
 
 pub always : Always
-always log image es empty = steady (after (begin log image) es) (run-carried es (begin log image) (begin-carried log image empty))
+always log image es empty =
+    let s : Stripe = begin log image in
+    let C : Carried s = begin-carried log image empty in
+    steady (noted s es) (after s es) (run-carried es s C) (grown es s C ∙ ap (λ (l : List Run). l ++ map placeOf (noted s es)) (none-counted log (empty .1)))

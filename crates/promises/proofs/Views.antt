@@ -4,7 +4,7 @@ use native.Mathlib.Omega.{arith}
 use mathlib.Core.Path.{_≡_, refl, sym, _∙_, ap, subst}
 use mathlib.Core.Logic.{_⊎_, inl, inr, ⊎-elim}
 use mathlib.Core.Bool.{Bool, true, false, cond, _&&_}
-use mathlib.Core.List.{List, [], _∷_}
+use mathlib.Core.List.{List, [], _∷_, _++_}
 use lib.ListN.{length, getD}
 use lib.Dec.{eqb, leb, ltb}
 use borrow.Author.Tests.{eqb-true, le-leb, lt-leb, lt-ltb, le-ltb}
@@ -23,8 +23,8 @@ use Rattle.gilboreth.specs.Write.{writeAnswer, writeImage}
 use Rattle.gilboreth.specs.Restart.{restartAnswer, restartMap}
 use Rattle.stripe.proofs.Accepted.{WriteFacts, write-facts}
 use Rattle.stripe.proofs.Stored.{written-length, written-in, written-out}
-use Rattle.promises.specs.Run.{Piece, ageOf, size, Covers, byteOf, Map, lost, live, Stripe, Step, note, noteCut, write, writeCut, restart, cut, noteOk, writeOk, afterNote, afterWrite, scrambled, torn, unplugged, next, notes, Write, writes}
-use Rattle.promises.proofs.Carried.{entriesOf, placeOf, IsMap, Log, Carried, noted, same-log, scrambled-entries}
+use Rattle.promises.specs.Run.{Piece, ageOf, size, Covers, byteOf, placeOf, Map, lost, live, Stripe, Step, note, noteCut, write, writeCut, restart, cut, noteOk, writeOk, afterNote, afterWrite, scrambled, torn, unplugged, next, notes, Write, writes}
+use Rattle.promises.proofs.Carried.{entriesOf, IsMap, Log, Carried, noted, same-log, scrambled-entries}
 
 pub covered : (p : Piece) (b : ℕ) → Covers p b ⊎ (Covers p b → ⊥)
 covered p b =
@@ -72,7 +72,7 @@ pub record Wrote (s s′ : Stripe) (p : Piece) (whole : Bool) : Type 0 where
 
 pub data View (s s′ : Stripe) : List Piece → List Write → Type 0 where
   quiet : s′ .image ≡ s .image → entriesOf s′ ≡ entriesOf s → View s s′ [] []
-  new : (p : Piece) → s′ .image ≡ s .image → ((b : ℕ) → owner (entriesOf s′) b ≡ max (given p b) (owner (entriesOf s) b)) → View s s′ (p ∷ []) []
+  new : (p : Piece) → s′ .image ≡ s .image → entriesOf s′ ≡ entriesOf s ++ (placeOf p ∷ []) → ((b : ℕ) → owner (entriesOf s′) b ≡ max (given p b) (owner (entriesOf s) b)) → View s s′ (p ∷ []) []
   wrote : (p : Piece) (c : Bool) → Wrote s s′ p c → View s s′ [] (record { piece = p; whole = c } ∷ [])
 
 -- An accepted write of any bytes v in the piece's place
@@ -114,6 +114,7 @@ image-is m image p t e = ap (λ (t : Bool). cond t (written (runsOf width m) (p 
 -- An accepted note, with the map live
 record Grown (s : Stripe) (log : List ℕ) (p : Piece) : Type 0 where
   sound : Log log
+  entries : runsOf width log ≡ entriesOf s ++ (placeOf p ∷ [])
   owners : (b : ℕ) → owner (runsOf width log) b ≡ max (given p b) (owner (entriesOf s) b)
 
 grown : (mp : Map) (log image : List ℕ) (p : Piece) → Log log → IsMap mp log → noteOk (record { map = mp; log = log; image = image }) mp p ≡ true
@@ -122,7 +123,7 @@ unfolding noteOk afterNote
 grown lost log image p L M e = never e
 grown (live m) log image p L M e =
     let N = noted m log p (length image) L M e in
-    record { sound = N .log; owners = λ b. ap (λ (rs : List Run). owner rs b) (N .entries) ∙ owner-snoc (runsOf width log) (placeOf p) b ∙ ap (λ (x : ℕ). max x (owner (runsOf width log) b)) (given-over p b (N .some)) }
+    record { sound = N .log; entries = N .entries; owners = λ b. ap (λ (rs : List Run). owner rs b) (N .entries) ∙ owner-snoc (runsOf width log) (placeOf p) b ∙ ap (λ (x : ℕ). max x (owner (runsOf width log) b)) (given-over p b (N .some)) }
 
 image-kept : (s : Stripe) (mp : Map) (p : Piece) → afterNote s mp p .image ≡ s .image
 unfolding afterNote
@@ -138,7 +139,7 @@ note-view : (s : Stripe) (p : Piece) → Carried s → View s (afterNote s (s .m
 note-view s p C = go (noteOk s (s .map) p) refl
   where
     go : (t : Bool) → noteOk s (s .map) p ≡ t → View s (afterNote s (s .map) p) (cond t (p ∷ []) []) []
-    go true e = let G = grown (s .map) (s .log) (s .image) p (C .log) (C .map) e in new p (image-kept s (s .map) p) (G .owners)
+    go true e = let G = grown (s .map) (s .log) (s .image) p (C .log) (C .map) e in new p (image-kept s (s .map) p) (G .entries) (G .owners)
     go false e = quiet (image-kept s (s .map) p) (ap (runsOf width) (log-kept s (s .map) p e))
 
 cut-view : (s : Stripe) (left : Bool) (junk : ℕ → ℕ) (p : Piece) → Carried s
@@ -148,7 +149,8 @@ cut-view s left junk p C = go (left && noteOk s (s .map) p) refl
     go : (t : Bool) → (left && noteOk s (s .map) p) ≡ t → View s (unplugged (scrambled junk (cond t (afterNote s (s .map) p .log) (s .log))) (s .image)) (cond t (p ∷ []) []) []
     go true e =
         let G = grown (s .map) (s .log) (s .image) p (C .log) (C .map) (and-right left (noteOk s (s .map) p) e) in
-        new p refl (λ b. ap (λ (rs : List Run). owner rs b) (scrambled-entries junk (afterNote s (s .map) p .log) (G .sound)) ∙ G .owners b)
+        let same = scrambled-entries junk (afterNote s (s .map) p .log) (G .sound) in
+        new p refl (same ∙ G .entries) (λ b. ap (λ (rs : List Run). owner rs b) same ∙ G .owners b)
     go false e = quiet refl (scrambled-entries junk (s .log) (C .log))
 
 write-view : (mp : Map) (log image : List ℕ) (p : Piece) → IsMap mp log

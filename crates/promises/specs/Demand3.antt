@@ -5,14 +5,14 @@ use Prim.Native.Nat.{ℕ, _≤_}
 use mathlib.Core.Path.{_≡_}
 use mathlib.Core.Logic.{_⊎_}
 use mathlib.Core.Bool.{true}
-use mathlib.Core.List.{List, [], _∷_}
+use mathlib.Core.List.{List, [], _∷_, map}
 use lib.ListN.{length, getD}
 use Rattle.common.specs.Counters.{width}
 use Rattle.runs.specs.Map.{mapOf}
 use Rattle.runs.specs.Bytes.{runsOf, mapSize, soundMapBytes, mapBytes}
 use Rattle.gilboreth.specs.Restart.{restartAnswer}
 use Rattle.promises.specs.Among.{Among}
-use Rattle.promises.specs.Run.{Piece, ageOf, Covers, byteOf, Map, lost, live, Stripe, EmptyLog, begin, Step, after, noted, Write, accepted}
+use Rattle.promises.specs.Run.{Piece, ageOf, Covers, byteOf, placeOf, Map, lost, live, Stripe, EmptyLog, begin, Step, after, noted, Write, accepted}
 
 abbrev pub HasWrite : Piece → List Write → Type 0
 HasWrite p [] = ⊥
@@ -45,15 +45,16 @@ Demand3 =
     → Finished (accepted (begin log image) es)
     → Kept (noted (begin log image) es) image (after (begin log image) es .image)
 
--- With it: "in every run the map is the log's map, and no restart is refused". While the map is not lost it is sound, and to the byte what a restart
--- fills in; a restart is lent a buffer of the map's length
+-- With it: "in every run the map is the log's map, and no restart is refused". The log has the entries of the noted pieces, in note order. While the
+-- map is not lost it is sound, and to the byte what a restart fills in; a restart is lent a buffer of the map's length
 abbrev pub LogsMap : Map → List ℕ → Type 0
 LogsMap lost log = Unit {0}
 LogsMap (live m) log = (soundMapBytes m ≡ true) × (m ≡ mapBytes width (mapOf (runsOf width log)))
 
-pub record Steady (s : Stripe) : Type 0 where
+pub record Steady (ps : List Piece) (s : Stripe) : Type 0 where
+  pub log : runsOf width (s .log) ≡ map placeOf ps
   pub map : LogsMap (s .map) (s .log)
   pub restarts : (buffer : List ℕ) → length buffer ≡ mapSize width → restartAnswer buffer (s .log) ≡ 0
 
 abbrev pub Always : Type 0
-Always = (log image : List ℕ) (es : List Step) → EmptyLog log → Steady (after (begin log image) es)
+Always = (log image : List ℕ) (es : List Step) → EmptyLog log → Steady (noted (begin log image) es) (after (begin log image) es)

@@ -8,7 +8,9 @@ use lib.ListN.{length, getD, replicate}
 use Rattle.common.specs.Counters.{width}
 use Rattle.xdr.specs.Be.{be}
 use Rattle.xdr.specs.Tab.{tab}
+use Rattle.runs.specs.declared.Run.{Run}
 use Rattle.runs.specs.Bytes.{runsOf, runsEnd, mapSize, logSize}
+use Rattle.stripe.specs.Refusals.{place}
 use Rattle.stripe.specs.Stripe.{written}
 use Rattle.gilboreth.specs.Note.{noteAnswer, noteMap, noteLog}
 use Rattle.gilboreth.specs.Write.{writeAnswer, writeImage}
@@ -33,6 +35,10 @@ Covers p b = (p .first ≤ b) × (b < p .first + size p)
 
 abbrev pub byteOf : Piece → ℕ → ℕ
 byteOf p b = getD (p .bytes) (b - p .first) 0
+
+-- Its place, as its entry in the log says it
+abbrev pub placeOf : Piece → Run
+placeOf p = place (p .first) (size p) (p .number)
 
 -- The stripe's buffers. "After any cut the map is lost"
 pub data Map : Type 0 where
