@@ -110,7 +110,7 @@ change-sound t (Request c s m f l) e S =
     asked (t .issued) (t .lasts) (t .locks) c s m f l S
     (nltb→le maxClient c (search (and-l))) (nltb→le maxStripe s (search (and-l, and-r))) (search (and-l, leb→le)) (search (and-r, leb→le))
     (leb→le f l (and-l (leb f l) (leb l eof) z)) (leb→le l eof (and-r (leb f l) (leb l eof) z))
-    (nleb→lt (highest width) (t .issued) (search (and-l, and-r) depth 8)) (nleb→lt maxRecords (length (t .locks)) (search (and-l, and-r) depth 8))
+    (nleb→lt (highest width) (t .issued) (search (and-l, and-r) depth 8)) (nleb→lt maxRecords (length (t .locks)) (search (and-l, and-r) depth 16))
 change-sound t (Acknowledge c h) e S = changed (t .issued) (t .lasts) (λ r. cond (mayAcknowledge c h r) (inState canceling r) r) (calm-acknowledged c h) (t .locks) S
 change-sound t (Downgrade c h) e S = changed (t .issued) (t .lasts) (λ r. cond (mayDowngrade c h r) (downgraded r) r) (calm-downgraded c h) (t .locks) S
 change-sound t (Release c h) e S = kept (t .issued) (t .lasts) (t .locks) (λ r. not (named c h r)) S
