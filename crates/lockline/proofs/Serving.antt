@@ -19,7 +19,7 @@ use Rattle.locks.specs.Events.{eventFields, eventsSize, eventsOver}
 use Rattle.locks.proofs.Events.{serve-once}
 use Rattle.serve.specs.declared.Answer.{Answer}
 use Rattle.serve.specs.Leaves.{Leaves}
-use Rattle.gilboreth.specs.Messages.{outcome, Serves}
+use Rattle.gilboreth.specs.Messages.{Serves}
 use Rattle.gilboreth.proofs.Entering.{sound-good}
 use Rattle.promises.specs.Session.{done, call}
 use Rattle.promises.proofs.Sessions.{outcome-is, Follows, session-follows}

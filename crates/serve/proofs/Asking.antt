@@ -2,8 +2,7 @@
 use Prim.Native.Nat.{ℕ, _+_, _^_, _≤_, _<_}
 use native.Mathlib.Omega.{arith}
 use mathlib.Core.List.{List, [], _∷_, _++_}
-use mathlib.Core.Bool.{not}
-use mathlib.Core.Path.{_≡_, sym, ap, subst, _∙_}
+use mathlib.Core.Path.{_≡_, sym, ap, _∙_}
 use lib.Dec.{T, leb→le, nleb→lt, nltb→le}
 use lib.ListN.{length}
 use Rattle.common.specs.Counters.{width, highest}
@@ -13,19 +12,17 @@ use Rattle.common.proofs.Order.{eq→eqb}
 use Rattle.common.proofs.Refusals.{unbroken}
 use Rattle.modes.specs.Codes.{knownMode}
 use Rattle.table.specs.Table.{Table, maxClient, maxStripe, maxRecords}
-use Rattle.table.specs.Sound.{sound}
 use Rattle.table.specs.Bytes.{locksOf, tableOf}
 use Rattle.table.specs.Places.{FitsTable, Holds, withIssued, withLocks}
 use Rattle.table.proofs.Records.{locks-length}
 use Rattle.locks.specs.declared.Message.{Message}
 use Rattle.locks.specs.declared.Message.the-variants.{Request}
 use Rattle.locks.specs.Refusals.{requestRules, rules}
-use Rattle.locks.specs.Serve.{asking, change, answered, serve}
-use Rattle.locks.proofs.Served.{change-keeps}
+use Rattle.locks.specs.Serve.{asking, change, answered}
 use Rattle.settle.specs.Posts.{Good}
 use Rattle.serve.specs.declared.Answer.{Answer}
 use Rattle.serve.specs.Posts.{OnSound, Ends}
-use Rattle.serve.proofs.Ending.{holds-good, ends-at, served-refused, served-accepted}
+use Rattle.serve.proofs.Ending.{message-refused, message-good, message-served}
 
 -- k is what the rows answer
 module _ (n c s m f l k : ℕ) (t : List ℕ) (p : k ≡ firstHit (requestRules (tableOf width t) c s m f l)) where
@@ -40,8 +37,7 @@ module _ (n c s m f l k : ℕ) (t : List ℕ) (p : k ≡ firstHit (requestRules 
   rows = p
 
   pub request-refused : (b : List ℕ) (r : Answer) → (k ≡ 0 → ⊥) → r ≡ record { refusal = k; handle = 0; events = 0 } → OnSound (Request c s m f l) t b r t b
-  unfolding serve
-  request-refused b r z q = served-refused (rules X asks) (answered X asks) (change X asks) t b r k rows z q
+  request-refused b r z q = message-refused asks t b r k rows z q
 
   -- it answers 0, and e handles are issued
   module _ (G : Good n t) (z : k ≡ 0) (e : ℕ) (q : e ≡ tableOf width t .issued) where
@@ -79,17 +75,9 @@ module _ (n c s m f l k : ℕ) (t : List ℕ) (p : k ≡ firstHit (requestRules 
           ∙ ap (λ (Y : Table). withLocks Y (Y .locks ++ (asking (e + 1) c s m f l ∷ []))) (H .says)
           ∙ ap (λ (j : ℕ). withLocks (withIssued X (j + 1)) (locksOf width t ++ (asking (j + 1) c s m f l ∷ []))) q
 
-      accepts : firstHit (rules X asks) ≡ 0
-      accepts = sym rows ∙ z
-
       pub request-good : Good (n + 1) v
-      request-good = record {
-        shape = K .shape;
-        sounds = subst (λ (Y : Table). T (sound Y)) (sym changed) (change-keeps X asks (G .sounds) (eq→eqb (firstHit (rules X asks)) 0 accepts));
-      }
+      request-good = message-good asks t (sym rows ∙ z) (n + 1) v (K .shape) changed (G .sounds)
 
       pub request-served : (r : Answer) (b w d : List ℕ) → Ends (e + 1) (tableOf width v) b r w d → OnSound (Request c s m f l) t b r w d
-      unfolding serve answered
-      request-served r b w d E =
-          served-accepted (rules X asks) (answered X asks) (change X asks) t b r w d accepts
-          (ends-at (X .issued + 1) (change X asks) (tableOf width v) b r w d changed (subst (λ (j : ℕ). Ends (j + 1) (tableOf width v) b r w d) q E))
+      unfolding answered
+      request-served r b w d E = message-served asks t (sym rows ∙ z) (n + 1) v (K .shape) changed (e + 1) b r w d (ap (λ (j : ℕ). j + 1) q) E

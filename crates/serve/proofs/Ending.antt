@@ -8,25 +8,25 @@ use lib.ListN.{length}
 use borrow.Author.Tests.{ne-eqb}
 use Rattle.common.specs.Counters.{width}
 use Rattle.common.specs.Refusals.{Rule, firstHit}
+use Rattle.common.proofs.Order.{eq→eqb}
 use Rattle.table.specs.Table.{Table}
 use Rattle.table.specs.Sound.{sound}
 use Rattle.table.specs.Bytes.{tableOf}
-use Rattle.table.specs.Places.{countOf, Holds}
+use Rattle.table.specs.Places.{countOf, Shape, Holds}
 use Rattle.table.proofs.Records.{locks-length}
+use Rattle.locks.specs.declared.Message.{Message}
 use Rattle.locks.specs.Settle.{settle}
-use Rattle.locks.specs.Serve.{refused, served}
+use Rattle.locks.specs.Refusals.{rules}
+use Rattle.locks.specs.Serve.{change, answered, refused, served, serve}
 use Rattle.locks.specs.Events.{eventsOver}
+use Rattle.locks.proofs.Served.{change-keeps}
 use Rattle.settle.specs.Posts.{Good, Settles}
 use Rattle.serve.specs.declared.Answer.{Answer}
 use Rattle.serve.specs.Leaves.{Leaves}
-use Rattle.serve.specs.Posts.{Ends}
+use Rattle.serve.specs.Posts.{OnSound, Ends}
 
 pub counted : (n : ℕ) (t : List ℕ) → n ≡ countOf t → Good (countOf t) t → Good n t
 counted n t e G = subst (λ (m : ℕ). Good m t) (sym e) G
-
--- the bytes u hold a sound table
-pub holds-good : (n : ℕ) (X : Table) (u : List ℕ) → Holds n X u → T (sound X) → Good n u
-holds-good n X u H s = record { shape = H .shape; sounds = subst (λ (Y : Table). T (sound Y)) (sym (H .says)) s }
 
 -- the settling's count is the answer's
 pub ends : (n h k : ℕ) (X : Table) (b u c : List ℕ) → Settles n X b k u c → Ends h X b (record { refusal = 0; handle = h; events = k }) u c
@@ -36,10 +36,6 @@ ends n h k X b u c S = record {
   table = λ a. subst (λ (m : ℕ). Holds m (settle X .table) u) (sym (S .table .shape .count) ∙ sym (locks-length u) ∙ ap (λ (Y : Table). length (Y .locks)) (S .table .says)) (S .table);
   events = S .bytes;
 }
-
--- the bytes t hold the changed table X
-pub ends-at : (h : ℕ) (X Y : Table) (b : List ℕ) (r : Answer) (u c : List ℕ) → Y ≡ X → Ends h Y b r u c → Ends h X b r u c
-ends-at h X Y b r u c e E = subst (λ (Z : Table). Ends h Z b r u c) e E
 
 -- a refusal
 pub leaves-refused : (X : Table) (t b : List ℕ) (r : Answer) (k : ℕ) → (k ≡ 0 → ⊥) → r ≡ record { refusal = k; handle = 0; events = 0 } → Leaves (refused X k) t b r t b
@@ -55,5 +51,31 @@ module _ (list : List Rule) (h : ℕ) (X : Table) (t b : List ℕ) where
   pub served-refused : (r : Answer) (k : ℕ) → k ≡ firstHit list → (k ≡ 0 → ⊥) → r ≡ record { refusal = k; handle = 0; events = 0 } → Leaves (served list h X (tableOf width t)) t b r t b
   served-refused r k e z q = rw (← e, ne-eqb k 0 z) (leaves-refused (tableOf width t) t b r k z q)
 
-  pub served-accepted : (r : Answer) (u c : List ℕ) → firstHit list ≡ 0 → Ends h X b r u c → Leaves (served list h X (tableOf width t)) t b r u c
-  served-accepted r u c z E = rw (z) (record { answer = E .answer; same = λ a. absurd a; table = E .table; events = E .events })
+  -- it is not refused, and the changed table stands in u
+  module _ (n : ℕ) (u : List ℕ) (S : Shape n u) (e : tableOf width u ≡ X) where
+    pub changed-good : T (sound X) → Good n u
+    changed-good s = record { shape = S; sounds = subst (λ (Y : Table). T (sound Y)) (sym e) s }
+
+    pub changed-served : (r : Answer) (v c : List ℕ) → firstHit list ≡ 0 → Ends h (tableOf width u) b r v c → Leaves (served list h X (tableOf width t)) t b r v c
+    changed-served r v c z E = rw (z) (record { answer = F .answer; same = λ a. absurd a; table = F .table; events = F .events })
+      where
+        F : Ends h X b r v c
+        F = subst (λ (Y : Table). Ends h Y b r v c) e E
+
+-- a message
+module _ (m : Message) (t : List ℕ) where
+  abbrev X : Table
+  X = tableOf width t
+
+  pub message-refused : (b : List ℕ) (r : Answer) (k : ℕ) → k ≡ firstHit (rules X m) → (k ≡ 0 → ⊥) → r ≡ record { refusal = k; handle = 0; events = 0 } → OnSound m t b r t b
+  unfolding serve
+  message-refused b r k e z q = served-refused (rules X m) (answered X m) (change X m) t b r k e z q
+
+  module _ (z : firstHit (rules X m) ≡ 0) (n : ℕ) (u : List ℕ) (S : Shape n u) (e : tableOf width u ≡ change X m) where
+    pub message-good : T (sound X) → Good n u
+    message-good s = changed-good (rules X m) (answered X m) (change X m) t [] n u S e (change-keeps X m s (eq→eqb (firstHit (rules X m)) 0 z))
+
+    pub message-served : (h : ℕ) (b : List ℕ) (r : Answer) (v c : List ℕ) → h ≡ answered X m → Ends h (tableOf width u) b r v c → OnSound m t b r v c
+    unfolding serve
+    message-served h b r v c p E =
+        changed-served (rules X m) (answered X m) (change X m) t b n u S e r v c z (subst (λ (k : ℕ). Ends k (tableOf width u) b r v c) p E)

@@ -1,7 +1,7 @@
 -- What a client's message on a handle finds. Up to 10 its rows are those of a release; where they let it pass the record is there, and 11 decides.
 use Prim.Native.Nat.{ℕ, suc, _≤_, _<_}
 use native.Mathlib.Omega.{arith}
-use mathlib.Core.Bool.{Bool, true, false, not, _&&_, cond}
+use mathlib.Core.Bool.{Bool, true, false, not, cond}
 use mathlib.Core.List.{List}
 use mathlib.Core.Path.{_≡_, sym, ap, subst, _∙_}
 use lib.Dec.{T, eqb, ltb}

@@ -4,16 +4,13 @@ use native.Mathlib.Omega.{arith}
 use mathlib.Core.Bool.{Bool, true, false, not}
 use mathlib.Core.List.{List}
 use mathlib.Core.Path.{_≡_, sym, ap, _∙_}
-use lib.Dec.{eqb, leb}
+use lib.Dec.{leb}
 use lib.ListN.{length}
-use borrow.Author.Tests.{eq-eqb, ne-eqb, le-leb, lt-leb}
+use borrow.Author.Tests.{le-leb, lt-leb}
 use Rattle.common.specs.Counters.{width, highest}
-use Rattle.table.specs.declared.Lock.{Lock}
-use Rattle.table.specs.Table.{nth}
-use Rattle.table.specs.Bytes.{locksOf, tableOf}
-use Rattle.table.specs.Places.{lockAt, Shape}
+use Rattle.table.specs.Bytes.{locksOf}
+use Rattle.table.specs.Places.{Shape}
 use Rattle.table.proofs.Records.{locks-length}
-use Rattle.settle.proofs.Scan.{nth-is}
 
 -- 7: h handles are issued
 pub all-issued : (h v : ℕ) → h ≡ v → 4294967295 ≤ h → leb (highest width) v ≡ true
@@ -28,17 +25,6 @@ all-used n t S p = le-leb 256 (length (locksOf width t)) (let c = S .count in om
 
 pub not-all-used : (n : ℕ) (t : List ℕ) → Shape n t → n < 256 → leb 256 (length (locksOf width t)) ≡ false
 not-all-used n t S p = lt-leb 256 (length (locksOf width t)) (let c = S .count in omega (arith, locks-length t))
-
--- 10: l is the record at place i
-module _ (n i c : ℕ) (t : List ℕ) (l : Lock) (S : Shape n t) (h : i < n) (e : l ≡ lockAt t i) where
-  same-client : eqb (nth (tableOf width t) i .client) c ≡ eqb (l .client) c
-  same-client = ap (λ (x : Lock). eqb (x .client) c) (nth-is n i t l S h e)
-
-  pub other-client : (l .client ≡ c → ⊥) → not (eqb (nth (tableOf width t) i .client) c) ≡ true
-  other-client z = ap not (same-client ∙ ne-eqb (l .client) c z)
-
-  pub own-client : l .client ≡ c → not (eqb (nth (tableOf width t) i .client) c) ≡ false
-  own-client z = ap not (same-client ∙ eq-eqb (l .client) c z)
 
 -- what a function tells of a test
 pub told : (a b v : Bool) → a ≡ b → not a ≡ v → not b ≡ v

@@ -16,19 +16,17 @@ use table::MAX_RECORDS;
 use table::MAX_STRIPE;
 ghost use mathlib.Core.Path.{_≡_};
 ghost use Prim.Native.Nat.{_≤_, _<_};
-ghost use lib.Dec.{T};
 ghost use lib.ListN.{length};
 ghost use Rattle.common.specs.Counters.{width};
 ghost use Rattle.common.specs.Refusals.{firstHit};
 ghost use Rattle.table.specs.Bytes.{locksOf, tableOf};
-ghost use Rattle.table.specs.Sound.{sound};
-ghost use Rattle.table.specs.Places.{countOf, FitsTable, Shape, withLock};
-ghost use Rattle.locks.specs.declared.Message.the-variants.{Request, Acknowledge, Downgrade, Release};
+ghost use Rattle.table.specs.Places.{countOf, Shape};
+ghost use Rattle.locks.specs.declared.Message.the-variants.{Request, Release};
 ghost use Rattle.locks.specs.Refusals.{requestRules};
 ghost use Rattle.locks.specs.Serve.{downgraded};
 ghost use Rattle.locks.specs.Events.{eventsSize};
 ghost use Rattle.settle.specs.Posts.{Good, First};
-ghost use Rattle.serve.specs.Posts.{OnSound, Ends, has, Finds};
+ghost use Rattle.serve.specs.Posts.{OnSound, Ends, has, Finds, asks, ready, remade};
 
 // What a call answers: its refusal or 0, the handle that it made or named, and how many events it wrote.
 #[repr(C)]
@@ -180,36 +178,20 @@ fn named(t: &[u8], n: usize, client: u64, handle: Handle) -> Found
     }
 }
 
-// Stores l at place i, and settles.
-fn replace(t: &mut [u8], b: &mut [u8], n: usize, i: usize, l: Lock, h: Handle) -> Answer
-    requires { ⌜ Shape n (now t) × (i < n) × FitsTable l × T (sound (withLock (tableOf width (now t)) i l)) × (eventsSize width ≤ length (now b)) ⌝ }
-    ensures { λ r. ⌜ Ends (h .0) (withLock (tableOf width (now (t .entry))) i l) (now (b .entry)) r (now (t .exit)) (now (b .exit)) ⌝ }
-{
-    table::put_lock(t, n, i, l);
-    finish(t, b, n, h)
+// What a client's message makes of its record: an acknowledge makes an asked one canceling, a downgrade makes a canceling BW or PW one NBW.
+enum Becomes {
+    Canceling,
+    Nbw,
 }
 
-// Makes an asked record canceling, and settles.
-fn acknowledge(t: &mut [u8], b: &mut [u8], n: usize, client: u64, handle: Handle) -> Answer
-    requires { ⌜ Good n (now t) × (eventsSize width ≤ length (now b)) ⌝ }
-    ensures { λ r. ⌜ OnSound (Acknowledge client (handle .0)) (now (t .entry)) (now (b .entry)) r (now (t .exit)) (now (b .exit)) ⌝ }
+// Says whether 11 lets l become that.
+fn ready(l: Lock, to: Becomes) -> bool
+    ensures { λ r. ⌜ r ≡ ready to l ⌝ }
 {
-    let f = named(t, n, client, handle);
-    if f.refusal != 0 {
-        return refused(f.refusal);
+    match to {
+        Becomes::Canceling => l.state == ASKED,
+        Becomes::Nbw => (l.state == CANCELING) & ((BW <= l.mode) & (l.mode <= PW)),
     }
-    let l = table::lock_at(t, f.place);
-    if l.state != ASKED {
-        return refused(11);
-    }
-    replace(
-        t,
-        b,
-        n,
-        f.place,
-        settle::given(l, CANCELING, l.number, l.last),
-        handle,
-    )
 }
 
 // Makes of l the same record in mode NBW.
@@ -230,20 +212,31 @@ fn downgraded(l: Lock) -> Lock
     }
 }
 
-// Makes a canceling BW or PW record an NBW record, and settles.
-fn downgrade(t: &mut [u8], b: &mut [u8], n: usize, client: u64, handle: Handle) -> Answer
+// Makes of l what it becomes.
+fn remade(l: Lock, to: Becomes) -> Lock
+    ensures { λ r. ⌜ r ≡ remade to l ⌝ }
+{
+    match to {
+        Becomes::Canceling => settle::given(l, CANCELING, l.number, l.last),
+        Becomes::Nbw => downgraded(l),
+    }
+}
+
+// Remakes the client's record with the handle, and settles.
+fn remake(t: &mut [u8], b: &mut [u8], n: usize, client: u64, handle: Handle, to: Becomes) -> Answer
     requires { ⌜ Good n (now t) × (eventsSize width ≤ length (now b)) ⌝ }
-    ensures { λ r. ⌜ OnSound (Downgrade client (handle .0)) (now (t .entry)) (now (b .entry)) r (now (t .exit)) (now (b .exit)) ⌝ }
+    ensures { λ r. ⌜ OnSound (asks to client (handle .0)) (now (t .entry)) (now (b .entry)) r (now (t .exit)) (now (b .exit)) ⌝ }
 {
     let f = named(t, n, client, handle);
     if f.refusal != 0 {
         return refused(f.refusal);
     }
     let l = table::lock_at(t, f.place);
-    if !((l.state == CANCELING) & ((BW <= l.mode) & (l.mode <= PW))) {
+    if !ready(l, to) {
         return refused(11);
     }
-    replace(t, b, n, f.place, downgraded(l), handle)
+    table::put_lock(t, n, f.place, remade(l, to));
+    finish(t, b, n, handle)
 }
 
 // Removes a record, or withdraws a request, and settles.
@@ -273,8 +266,12 @@ pub fn serve(t: &mut [u8], b: &mut [u8], m: Message) -> Answer
             first,
             last,
         } => request(t, b, n, client, stripe, mode, first, last),
-        Message::Acknowledge { client, handle } => acknowledge(t, b, n, client, Handle(handle)),
-        Message::Downgrade { client, handle } => downgrade(t, b, n, client, Handle(handle)),
+        Message::Acknowledge { client, handle } => {
+            remake(t, b, n, client, Handle(handle), Becomes::Canceling)
+        }
+        Message::Downgrade { client, handle } => {
+            remake(t, b, n, client, Handle(handle), Becomes::Nbw)
+        }
         Message::Release { client, handle } => release(t, b, n, client, Handle(handle)),
     }
 }

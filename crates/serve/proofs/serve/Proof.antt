@@ -8,10 +8,10 @@ requests : tie.Need-returns
 requests c = rw (c .before .before .before .before .before .before .before .before .m .given .1) (c .before .before .before .before .request .ensures)
 
 acknowledges : tie.Need-returns-2
-acknowledges c = rw (c .before .before .before .before .before .before .before .before .m2 .given .1) (c .before .before .before .before .acknowledge .ensures)
+acknowledges c = rw (c .before .before .before .before .before .before .before .before .m2 .given .1) (c .before .before .before .before .remake .ensures)
 
 downgrades : tie.Need-returns-3
-downgrades c = rw (c .before .before .before .before .before .before .before .before .m3 .given .1) (c .before .before .before .before .downgrade .ensures)
+downgrades c = rw (c .before .before .before .before .before .before .before .before .m3 .given .1) (c .before .before .before .before .remake2 .ensures)
 
 releases : tie.Need-returns-4
 releases c = rw (c .before .before .before .before .before .before .before .before .m4 .given .1) (c .before .before .before .before .release .ensures)
