@@ -15,8 +15,7 @@ use Rattle.locks.specs.Conflicts.{obstacle}
 use Rattle.locks.specs.Settle.{Event}
 use Rattle.locks.specs.Events.{eventsSize}
 use Rattle.serve.specs.declared.Answer.{Answer}
-use Rattle.serve.specs.Serves.{Leaves}
-use Rattle.gilboreth.specs.Messages.{outcome}
+use Rattle.gilboreth.specs.Messages.{outcome, Serves}
 use Rattle.promises.specs.Among.{Among}
 use Rattle.promises.specs.Session.{Session}
 
@@ -32,7 +31,7 @@ pub record Orderly (t : List ℕ) : Type 0 where
   pub first : (w : Lock) → Among w (records t) → ((r : Lock) → Among r (records t) → handleOf w ≤ handleOf r) → T (held w)
   -- a waiting request w that a call finds, and leaves in the table with no record of a smaller handle in its way, is granted by that very call
   pub granted :
-      (m : Message) (b : List ℕ) (a : Answer) (u c : List ℕ) → eventsSize width ≤ length b → Leaves (outcome m t b) t b a u c
+      (m : Message) (b : List ℕ) (a : Answer) (u c : List ℕ) → eventsSize width ≤ length b → Serves m t b a u c
       → (w v : Lock) → Among w (records t) → T (waits w) → Among v (records u) → handleOf v ≡ handleOf w
       → ((r : Lock) → Among r (records u) → handleOf r < handleOf w → T (not (obstacle w r)))
       → (e : Event) × Among e (outcome m t b .events) × (e .kind ≡ 1) × (handleOf (e .lock) ≡ handleOf w)
