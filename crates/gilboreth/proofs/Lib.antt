@@ -1,6 +1,1 @@
 pub mod Entering
-pub mod Filling
-pub mod Noting
-pub mod Restarting
-pub mod WriteRules
-pub mod WriteOutcome

@@ -14,15 +14,17 @@ use Rattle.common.specs.Ranges.{eof}
 use Rattle.common.proofs.Order.{below, same}
 use Rattle.xdr.specs.Be.{be}
 use Rattle.xdr.specs.Array.{putElements}
+use Rattle.runs.specs.declared.Age.{Age}
 use Rattle.runs.specs.declared.Run.{Run}
+use Rattle.runs.specs.Ages.{valueOf, age}
 use Rattle.runs.specs.Owner.{ageOf, run, owner}
 use Rattle.runs.specs.Map.{put, draw, end, raise}
 use Rattle.runs.specs.Bytes.{runsOf, soundMapBytes}
 use Rattle.runs.proofs.Over.{over-before, over-after, owner-end}
 use Rattle.runs.proofs.Canon.{Canon, none, next, head, rest, canon-start, canon-before}
-use Rattle.runs.proofs.Age.{sane-pos}
+use Rattle.runs.proofs.Ages.{value-age, sane-exact, sane-pos}
 use Rattle.runs.proofs.Draw.{by-put}
-use Rattle.runs.proofs.Valid.{Valid}
+use Rattle.runs.specs.Valid.{Valid}
 use Rattle.runs.proofs.Sound.{sound-canon}
 use Rattle.runs.proofs.Stretch.{draw-append, map-drawn}
 use Rattle.runs.proofs.Unique.{canon-drawn}
@@ -112,7 +114,7 @@ pub record Skipped (g : ℕ → ℕ) (s old out : List ℕ) (i : ℕ) (p : Pen) 
 module _ (s old : List ℕ) (piece : Run) (sound : soundMapBytes s ≡ true) where
   -- the run at place j is pending
   pending-at : (j : ℕ) → j < be 4 s 0 → runAt s j .last < piece .first
-      → Skipped (owner (piece ∷ runsOf width s)) s old (withRuns old 0 (take j (runsOf width s))) (j + 1) (record { k = j; cur = runAt s j .first; tip = ageOf (runAt s j); x = runAt s j .last + 1 })
+      → Skipped (owner (piece ∷ runsOf width s)) s old (withRuns old 0 (take j (runsOf width s))) (j + 1) (record { k = j; cur = runAt s j .first; tip = runAt s j .age; x = runAt s j .last + 1 })
   unfolding owner
   pending-at j h k =
       let m = map-facts s sound in
@@ -120,14 +122,14 @@ module _ (s old : List ℕ) (piece : Run) (sound : soundMapBytes s ≡ true) whe
       let r : Run = runAt s j in
       let c = sound-canon rs (m .sound) in
       let v = valid-at s j h (m .good) in
-      let q = sane-pos (ageOf r) (v .some) in
+      let q = sane-pos (r .age) (v .some) in
       let o = on j rs (left-all rs (m .sound)) in
       let l : Left rs (r ∷ drop (j + 1) rs) (o .x) = rw (runs-from s j h) at (o .left) in
       let f : Front 0 0 j (r .first) rs (take j rs) = rw (runs-at s j h (run 0 0 0)) at (front j rs (run 0 0 0) c (rw runs-length h)) in
       let e : draw (owner (piece ∷ rs)) 0 (r .first) ≡ take j rs =
       draws (owner (piece ∷ rs)) (take j rs) 0 (r .first) (f .canon) (omega (arith, f .ends)) (λ b _ u. omega (arith, over-before piece b (omega arith), f .says b (omega arith))) in
       record {
-        fine = record { stored = omega (arith, f .few); behind = omega arith; begun = omega arith };
+        fine = record { stored = omega (arith, f .few); behind = omega arith; begun = omega arith; exact = sane-exact (r .age) (v .some) };
         most = omega arith;
         left = left-next r l;
         drawn = record {
@@ -181,9 +183,10 @@ module _ (piece : Run) (rs : List Run) (v : Valid piece) where
       ∙ ap (λ (l : List Run). draw g 0 (t .first) ++ l)
       (draws g (t ∷ ts) (t .first) m (canon-start (t .first) t (l .canon) (omega arith)) (omega arith) (λ b u _. omega (arith, l .agree b (omega arith), over-after piece b (omega arith)))))
 
-  pub raise-done : (ts : List Run) (p p1 : Pen) (old o o1 o2 o3 : List ℕ) (k n : ℕ) → After piece ts → Left rs ts (p .x) → Drawn (owner (piece ∷ rs)) old o p
-      → Went p (startOf ts) (under piece 0) o o1 p1 → Flushed p1 o1 o2 k → Added ts k o2 o3 n → Stored (raise piece rs) old o3 n
+  pub raise-done : (ts : List Run) (p p1 : Pen) (old o o1 o2 o3 : List ℕ) (z : Age) (k n : ℕ) → After piece ts → Left rs ts (p .x) → Drawn (owner (piece ∷ rs)) old o p → z ≡ age 0
+      → Went p (startOf ts) (under piece (valueOf z)) o o1 p1 → Flushed p1 o1 o2 k → Added ts k o2 o3 n → Stored (raise piece rs) old o3 n
   unfolding owner
-  raise-done ts p p1 old o o1 o2 o3 k n a l d w f t =
+  raise-done ts p p1 old o o1 o2 o3 z k n a l d e w f t =
+      let y : valueOf z ≡ 0 = ap valueOf e ∙ value-age 0 in
       rw (raised-is ts (p .x) (p1 .x) a l (w .at))
       (stored-added (draw (owner (piece ∷ rs)) 0 (p1 .x)) ts (flushed p1 (w .fine) (w .keeps (owner (piece ∷ rs)) old (λ b i j. omega (arith, gap ts b l i j)) d) f) t)

@@ -2,17 +2,20 @@
 use Prim.Native.Nat.{ℕ, suc, _+_, _≤_, _<_, min, max}
 use native.Mathlib.Numerals.{add-one}
 use native.Mathlib.Omega.{arith}
-use mathlib.Core.Path.{_≡_, refl, sym, _∙_, subst}
+use mathlib.Core.Path.{_≡_, refl, sym, _∙_, ap, subst}
 use mathlib.Core.Logic.{⊎-elim}
 use mathlib.Core.Bool.{true}
 use mathlib.Core.List.{List, [], _∷_}
 use Rattle.common.proofs.Order.{below}
+use Rattle.runs.specs.declared.Age.{Age}
 use Rattle.runs.specs.declared.Run.{Run}
+use Rattle.runs.specs.Ages.{valueOf, age}
 use Rattle.runs.specs.Owner.{ageOf, owner}
 use Rattle.runs.specs.Sound.{soundMap}
+use Rattle.runs.proofs.Ages.{value-age}
 use Rattle.runs.proofs.Over.{over-before, over-in, over-after, owner-after}
 use Rattle.runs.proofs.Canon.{Canon, head, rest, canon-start, canon-before, canon-head}
-use Rattle.runs.proofs.Valid.{Valid}
+use Rattle.runs.specs.Valid.{Valid}
 use Rattle.runs.proofs.Sound.{sound-canon}
 use Rattle.pen.specs.declared.Pen.{Pen}
 use Rattle.pen.specs.Drawing.{Drawn, Went, one}
@@ -32,9 +35,11 @@ module _ (p p1 : Pen) (o o1 : List ℕ) (q m : ℕ) (piece : Run) (w : Went p q 
 
 -- before, inside and after the piece
 pub cross-went :
-    (p p1 p2 p3 : Pen) (o o1 o2 o3 : List ℕ) (q m q1 q2 a : ℕ) (piece : Run) → Valid piece → q1 ≡ min q (piece .first) → q2 ≡ min q (piece .last + 1) → a ≡ max (ageOf piece) m
-    → Went p q1 (one m) o o1 p1 → Went p1 q2 (one a) o1 o2 p2 → Went p2 q (one m) o2 o3 p3 → Went p q (under piece m) o o3 p3
-cross-went p p1 p2 p3 o o1 o2 o3 q m q1 q2 a piece v e1 e2 e3 w1 w2 w3 =
+    (p p1 p2 p3 : Pen) (o o1 o2 o3 : List ℕ) (q q1 q2 : ℕ) (m a : Age) (piece : Run) → Valid piece → q1 ≡ min q (piece .first) → q2 ≡ min q (piece .last + 1)
+    → a ≡ age (max (ageOf piece) (valueOf m)) → Went p q1 (one (valueOf m)) o o1 p1 → Went p1 q2 (one (valueOf a)) o1 o2 p2 → Went p2 q (one (valueOf m)) o2 o3 p3
+    → Went p q (under piece (valueOf m)) o o3 p3
+cross-went p p1 p2 p3 o o1 o2 o3 q q1 q2 m a piece v e1 e2 e3 w1 w2 w3 =
+    let n : valueOf a ≡ max (ageOf piece) (valueOf m) = ap valueOf e3 ∙ value-age (max (ageOf piece) (valueOf m)) in
     let a1 = w1 .at in
     let a2 = w2 .at in
     let a3 = w3 .at in
@@ -48,11 +53,12 @@ cross-went p p1 p2 p3 o o1 o2 o3 q m q1 q2 a piece v e1 e2 e3 w1 w2 w3 =
     }
 
 -- the gap before a run, and the run
-pub pass-went :
-    (p p1 p2 : Pen) (o o1 o2 : List ℕ) (r piece : Run) → Valid r → Went p (r .first) (under piece 0) o o1 p1 → Went p1 (r .last + 1) (under piece (ageOf r)) o1 o2 p2
+pub run-went :
+    (p p1 p2 : Pen) (o o1 o2 : List ℕ) (z : Age) (r piece : Run) → Valid r → z ≡ age 0 → Went p (r .first) (under piece (valueOf z)) o o1 p1 → Went p1 (r .last + 1) (under piece (ageOf r)) o1 o2 p2
     → Went p (r .last + 1) (owner (piece ∷ r ∷ [])) o o2 p2
 unfolding owner
-pass-went p p1 p2 o o1 o2 r piece v w1 w2 =
+run-went p p1 p2 o o1 o2 z r piece v e w1 w2 =
+    let n : valueOf z ≡ 0 = ap valueOf e ∙ value-age 0 in
     let a1 = w1 .at in
     record {
       at = further (p .x) (p1 .x) (p2 .x) (r .first) (r .last + 1) a1 (w2 .at) (omega arith);

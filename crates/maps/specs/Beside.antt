@@ -6,7 +6,6 @@ use lib.Dec.{eqb}
 use Rattle.common.specs.Ranges.{eof}
 use Rattle.xdr.specs.Be.{be}
 use Rattle.runs.specs.declared.Run.{Run}
-use Rattle.runs.specs.Owner.{ageOf}
 use Rattle.runbytes.specs.Places.{runAt}
 use Rattle.pen.specs.declared.Pen.{Pen}
 use Rattle.pen.specs.Drawing.{fresh}
@@ -25,7 +24,7 @@ pub record Ended (s : List ℕ) (x k : ℕ) : Type 0 where
 
 -- the pen that has drawn the runs before place i: the last of them is pending
 abbrev pub penAt : List ℕ → ℕ → Pen
-penAt s i = cond (eqb i 0) fresh (record { k = i - 1; cur = runAt s (i - 1) .first; tip = ageOf (runAt s (i - 1)); x = runAt s (i - 1) .last + 1 })
+penAt s i = cond (eqb i 0) fresh (record { k = i - 1; cur = runAt s (i - 1) .first; tip = runAt s (i - 1) .age; x = runAt s (i - 1) .last + 1 })
 
 -- the byte at which runs start: past EOF where there are none
 abbrev pub startOf : List Run → ℕ

@@ -1,5 +1,7 @@
 // Draws the map of a map and a piece, and the map of a log.
+use common::Number;
 use pen::Pen;
+use runs::Age;
 use runs::Run;
 ghost use mathlib.Core.Path.{_≡_};
 ghost use mathlib.Core.Bool.{true};
@@ -9,33 +11,34 @@ ghost use lib.ListN.{length, take, drop};
 ghost use Rattle.common.specs.Counters.{width};
 ghost use Rattle.common.specs.Ranges.{eof};
 ghost use Rattle.xdr.specs.Be.{be};
+ghost use Rattle.runs.specs.Ages.{valueOf, Exact};
 ghost use Rattle.runs.specs.Owner.{owner};
 ghost use Rattle.runs.specs.Map.{raise, mapOf};
 ghost use Rattle.runs.specs.Bytes.{mapSize, runsOf, soundMapBytes, soundLogBytes};
-ghost use Rattle.runs.proofs.Valid.{Valid};
+ghost use Rattle.runs.specs.Valid.{Valid};
 ghost use Rattle.pen.specs.Drawing.{Fine, withRuns, Added, Went, Stored};
 ghost use Rattle.maps.specs.Beside.{Begun, Ended, penAt, startOf};
 ghost use Rattle.maps.specs.Reach.{under, Covers, Reach, Opened, Seen};
 
 // Draws the age m up to before q, across the piece: before it, inside it at the greater age, and after it.
-fn cross(out: &mut [u8], p: Pen, q: u64, m: u64, piece: Run) -> Pen
-    requires { ⌜ (length (now out) ≡ mapSize width) × Fine p × Valid piece ⌝ }
-    ensures { λ r. ⌜ Went p q (under piece m) (now (out .entry)) (now (out .exit)) r ⌝ }
+fn cross(out: &mut [u8], p: Pen, q: u64, m: Age, piece: Run) -> Pen
+    requires { ⌜ (length (now out) ≡ mapSize width) × Fine p × Exact m × Valid piece ⌝ }
+    ensures { λ r. ⌜ Went p q (under piece (valueOf m)) (now (out .entry)) (now (out .exit)) r ⌝ }
 {
     let before = pen::push(out, p, common::lesser(q, piece.first), m);
     let inside = pen::push(
         out,
         before,
         common::lesser(q, piece.last + 1),
-        common::greater(piece.number.0, m),
+        runs::later(piece.age, m),
     );
     pen::push(out, inside, q, m)
 }
 
 // Draws the age m up to before q, raised to the piece's where that is greater.
-fn span(out: &mut [u8], p: Pen, q: u64, m: u64, piece: Run) -> Pen
-    requires { ⌜ (length (now out) ≡ mapSize width) × Fine p × Valid piece ⌝ }
-    ensures { λ r. ⌜ Went p q (under piece m) (now (out .entry)) (now (out .exit)) r ⌝ }
+fn span(out: &mut [u8], p: Pen, q: u64, m: Age, piece: Run) -> Pen
+    requires { ⌜ (length (now out) ≡ mapSize width) × Fine p × Exact m × Valid piece ⌝ }
+    ensures { λ r. ⌜ Went p q (under piece (valueOf m)) (now (out .entry)) (now (out .exit)) r ⌝ }
 {
     if q <= piece.first {
         return pen::push(out, p, q, m);
@@ -47,12 +50,12 @@ fn span(out: &mut [u8], p: Pen, q: u64, m: u64, piece: Run) -> Pen
 }
 
 // Draws up to the end of a run of the map, raised by the piece.
-fn pass(out: &mut [u8], p: Pen, r: Run, piece: Run) -> Pen
+fn draw_run(out: &mut [u8], p: Pen, r: Run, piece: Run) -> Pen
     requires { ⌜ (length (now out) ≡ mapSize width) × Fine p × Valid r × Valid piece ⌝ }
     ensures { λ t. ⌜ Went p (r .last + 1) (owner (piece ∷ r ∷ [])) (now (out .entry)) (now (out .exit)) t ⌝ }
 {
-    let gap = span(out, p, r.first, 0, piece);
-    span(out, gap, r.last + 1, r.number.0, piece)
+    let gap = span(out, p, r.first, runs::none(), piece);
+    span(out, gap, r.last + 1, r.age, piece)
 }
 
 // Counts the runs of a sound map that start at or before the byte x; the first `from` of them do.
@@ -64,7 +67,7 @@ fn begun(map: &[u8], from: usize, x: u64) -> usize
     let mut high = runbytes::count(map);
     while low < high {
         let middle = (low + high) / 2;
-        if runbytes::run_at(map, middle).first <= x {
+        if runbytes::first_at(map, middle) <= x {
             low = middle + 1;
             continue;
         }
@@ -91,7 +94,7 @@ fn start_at(map: &[u8], i: usize) -> u64
     ensures { λ q. ⌜ (q ≡ startOf (drop i (runsOf width (now (map .entry))))) × (q ≤ suc eof) ⌝ }
 {
     if i < runbytes::count(map) {
-        return runbytes::run_at(map, i).first;
+        return runbytes::first_at(map, i);
     }
     common::EOF + 1
 }
@@ -107,10 +110,11 @@ fn skip(out: &mut [u8], map: &[u8], i: usize) -> Pen
     let k = i - 1;
     pen::keep(out, 0, map, 0, k);
     let r = runbytes::run_at(map, k);
+    let tip = r.age;
     Pen {
         k,
         cur: r.first,
-        tip: r.number.0,
+        tip,
         x: r.last + 1,
     }
 }
@@ -138,10 +142,10 @@ pub fn raised(out: &mut [u8], map: &[u8], piece: Run) -> usize
     let to = begun(map, i, piece.last + 1);
     let mut p = skip(out, map, i);
     while i < to {
-        p = pass(out, p, runbytes::run_at(map, i), piece);
+        p = draw_run(out, p, runbytes::run_at(map, i), piece);
         i += 1;
     }
-    p = span(out, p, start_at(map, to), 0, piece);
+    p = span(out, p, start_at(map, to), runs::none(), piece);
     let k = pen::flush(out, p);
     rest(out, k, map, to)
 }
@@ -177,10 +181,10 @@ fn seen(x: u64, r: Run, v: View) -> View
     requires { ⌜ Valid r ⌝ }
     ensures { λ w. ⌜ Seen x r v w ⌝ }
 {
-    if r.number.0 < v.age {
+    if r.age.number.0 < v.age {
         return v;
     }
-    if r.number.0 == v.age {
+    if r.age.number.0 == v.age {
         if (r.first <= v.end) & (v.end <= r.last) {
             return View {
                 age: v.age,
@@ -199,7 +203,7 @@ fn seen(x: u64, r: Run, v: View) -> View
     }
     if x <= r.last {
         return View {
-            age: r.number.0,
+            age: r.age.number.0,
             end: r.last + 1,
             stop: v.stop,
         };
@@ -235,7 +239,14 @@ pub fn rebuilt(out: &mut [u8], log: &[u8]) -> usize
     };
     while p.x <= common::EOF {
         v = look(log, p.x, v);
-        p = pen::push(out, p, common::lesser(v.end, v.stop), v.age);
+        p = pen::push(
+            out,
+            p,
+            common::lesser(v.end, v.stop),
+            Age {
+                number: Number(v.age),
+            },
+        );
     }
     pen::flush(out, p)
 }

@@ -9,17 +9,17 @@ use lib.Seq.{take-suc, length-take-le, getD-drop}
 use Rattle.common.specs.Counters.{width}
 use Rattle.xdr.specs.Be.{be}
 use Rattle.xdr.specs.Layout.{putFields}
-use Rattle.xdr.specs.Array.{element, putElements}
+use Rattle.xdr.specs.Array.{putElements}
 use Rattle.xdr.proofs.Appends.{put-elements-append}
 use Rattle.runs.specs.Owner.{run}
-use Rattle.runs.specs.Bytes.{runLayout, runFields, runsOf}
+use Rattle.runs.specs.Bytes.{runLayout, runPlace, runFields, runsOf}
 use Rattle.runbytes.specs.Places.{runAt}
 use Rattle.runbytes.proofs.Places.{runs-length, runs-at}
 use Rattle.pen.specs.Drawing.{withRuns}
 
 module _ (s old : List ℕ) (k from i : ℕ) (h : from + i < be 4 s 0) where
   pub keep-more : (out out′ : List ℕ) → out ≡ withRuns old k (take i (drop from (runsOf width s)))
-      → out′ ≡ putFields (runLayout width) out (element (runLayout width) 0 (k + i)) 0 (runFields (runAt s (from + i)))
+      → out′ ≡ putFields (runLayout width) out (runPlace width (k + i)) 0 (runFields (runAt s (from + i)))
       → out′ ≡ withRuns old k (take (i + 1) (drop from (runsOf width s)))
   unfolding putElements
   keep-more out out′ e f =

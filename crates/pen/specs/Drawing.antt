@@ -8,6 +8,7 @@ use lib.ListN.{length}
 use Rattle.common.specs.Counters.{width}
 use Rattle.xdr.specs.Array.{putElements}
 use Rattle.runs.specs.declared.Run.{Run}
+use Rattle.runs.specs.Ages.{valueOf, age, Exact}
 use Rattle.runs.specs.Owner.{run}
 use Rattle.runs.specs.Map.{draw}
 use Rattle.runs.specs.Sound.{maxRuns}
@@ -16,17 +17,18 @@ use Rattle.pen.specs.declared.Pen.{Pen}
 
 -- nothing is drawn yet
 abbrev pub fresh : Pen
-fresh = record { k = 0; cur = 0; tip = 0; x = 0 }
+fresh = record { k = 0; cur = 0; tip = age 0; x = 0 }
 
 -- what a pen is at any time: each stored run ends before cur, and cur stands before x once something is drawn
 pub record Fine (p : Pen) : Type 0 where
   pub stored : p .k ≤ p .cur
   pub behind : min (p .x) 1 + p .cur ≤ p .x
-  pub begun : min (p .tip) 1 ≤ p .x
+  pub begun : min (valueOf (p .tip)) 1 ≤ p .x
+  pub exact : Exact (p .tip)
 
 -- the run from cur up to before x, which is not stored yet: none at age 0
 abbrev pub pending : Pen → List Run
-pending p = cond (eqb (p .tip) 0) [] (run (p .cur) (pred (p .x)) (p .tip) ∷ [])
+pending p = cond (eqb (valueOf (p .tip)) 0) [] (run (p .cur) (pred (p .x)) (valueOf (p .tip)) ∷ [])
 
 -- the bytes with the runs from place k on
 abbrev pub withRuns : List ℕ → ℕ → List Run → List ℕ
@@ -34,8 +36,8 @@ withRuns s k rs = putElements (runLayout width) s 0 k (map runFields rs)
 
 -- of the ages g: the runs before cur are stored, as far as they fit, and from cur up to before x the age is tip
 pub record Drawn (g : ℕ → ℕ) (old out : List ℕ) (p : Pen) : Type 0 where
-  pub flat : (b : ℕ) → p .cur ≤ b → b < p .x → g b ≡ p .tip
-  pub turns : (b : ℕ) → suc b ≡ p .cur → g b ≡ p .tip → ⊥
+  pub flat : (b : ℕ) → p .cur ≤ b → b < p .x → g b ≡ valueOf (p .tip)
+  pub turns : (b : ℕ) → suc b ≡ p .cur → g b ≡ valueOf (p .tip) → ⊥
   pub count : p .k ≡ length (draw g 0 (p .cur))
   pub bytes : p .k ≤ maxRuns → out ≡ withRuns old 0 (draw g 0 (p .cur))
 

@@ -1,11 +1,12 @@
 // A map drawn from left to right into a scratch buffer: stretches that touch at one age are joined, and age 0 is no run.
-use common::Number;
+use runs::Age;
 use runs::Run;
 ghost use mathlib.Core.Path.{_≡_};
 ghost use Prim.Native.Nat.{_+_, _≤_};
 ghost use lib.ListN.{length, take, drop};
 ghost use Rattle.common.specs.Counters.{width};
 ghost use Rattle.xdr.specs.Be.{be};
+ghost use Rattle.runs.specs.Ages.{valueOf, Exact};
 ghost use Rattle.runs.specs.Sound.{maxRuns};
 ghost use Rattle.runs.specs.Bytes.{mapSize, runsOf};
 ghost use Rattle.pen.specs.Drawing.{fresh, Fine, withRuns, Flushed, Went, one};
@@ -14,7 +15,7 @@ ghost use Rattle.pen.specs.Drawing.{fresh, Fine, withRuns, Flushed, Went
 pub struct Pen {
     pub k: usize,
     pub cur: u64,
-    pub tip: u64,
+    pub tip: Age,
     pub x: u64,
 }
 
@@ -25,7 +26,7 @@ pub fn start() -> Pen
     Pen {
         k: 0,
         cur: 0,
-        tip: 0,
+        tip: runs::none(),
         x: 0,
     }
 }
@@ -35,7 +36,8 @@ pub fn flush(out: &mut [u8], p: Pen) -> usize
     requires { ⌜ (length (now out) ≡ mapSize width) × Fine p ⌝ }
     ensures { λ k. ⌜ Flushed p (now (out .entry)) (now (out .exit)) k ⌝ }
 {
-    if p.tip == 0 {
+    let tip = p.tip;
+    if runs::is_none(tip) {
         return p.k;
     }
     if runbytes::MAX_RUNS <= p.k {
@@ -48,25 +50,26 @@ pub fn flush(out: &mut [u8], p: Pen) -> usize
         Run {
             first: p.cur,
             last,
-            number: Number(p.tip),
+            age: tip,
         },
     );
     p.k + 1
 }
 
 // Draws the age a up to before q.
-pub fn push(out: &mut [u8], p: Pen, q: u64, a: u64) -> Pen
-    requires { ⌜ (length (now out) ≡ mapSize width) × Fine p ⌝ }
-    ensures { λ r. ⌜ Went p q (one a) (now (out .entry)) (now (out .exit)) r ⌝ }
+pub fn push(out: &mut [u8], p: Pen, q: u64, a: Age) -> Pen
+    requires { ⌜ (length (now out) ≡ mapSize width) × Fine p × Exact a ⌝ }
+    ensures { λ r. ⌜ Went p q (one (valueOf a)) (now (out .entry)) (now (out .exit)) r ⌝ }
 {
     if q <= p.x {
         return p;
     }
-    if a == p.tip {
+    let tip = p.tip;
+    if runs::same(a, tip) {
         return Pen {
             k: p.k,
             cur: p.cur,
-            tip: a,
+            tip,
             x: q,
         };
     }

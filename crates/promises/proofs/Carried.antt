@@ -7,7 +7,7 @@ use mathlib.Core.Path.{_≡_, refl, sym, ap, subst, subst₂, _∙_}
 use lib.Dec.{eqb, ltb}
 use lib.ListN.{length, getD, replicate, length-replicate}
 use borrow.Author.Tests.{eqb-true, eq-eqb, lt-ltb}
-use Rattle.common.specs.Counters.{width, highest}
+use Rattle.common.specs.Counters.{width}
 use Rattle.common.proofs.Bools.{by-cond}
 use Rattle.xdr.specs.Be.{putBe}
 use Rattle.xdr.specs.Array.{putArray, putElements}
@@ -18,6 +18,7 @@ use Rattle.runs.specs.Owner.{owner}
 use Rattle.runs.specs.Map.{mapOf, raise, draw, end}
 use Rattle.runs.specs.Sound.{maxRuns, soundMap}
 use Rattle.runs.specs.Bytes.{runsOf, runsEnd, mapSize, logSize, soundMapBytes, soundLogBytes, bytesOf, mapBytes, appended}
+use Rattle.runs.proofs.Ages.{highestAge}
 use Rattle.runs.proofs.Over.{over-is, owner-snoc}
 use Rattle.runs.proofs.Draw.{map-owner}
 use Rattle.runs.proofs.Unique.{map-snoc}
@@ -25,12 +26,13 @@ use Rattle.runs.proofs.Sound.{log-is, map-sound}
 use Rattle.runs.proofs.Blank.{blank, be-blank, none-counted, none-logged, no-runs, empty-map}
 use Rattle.runs.proofs.MapBytes.{map-back, map-back-sound}
 use Rattle.runs.proofs.LogBytes.{LogBytes, log-bytes, bytes-log, entries, log-same}
-use Rattle.stripe.specs.Refusals.{place}
-use Rattle.gilboreth.specs.Note.{noteAnswer, noteMap, noteLog}
-use Rattle.gilboreth.specs.Restart.{restartAnswer, restartMap}
+use Rattle.stripe.specs.declared.Extent.{Extent}
+use Rattle.stripe.specs.Piece.{place}
+use Rattle.path.specs.Note.{noteAnswer, noteMap, noteLog}
+use Rattle.path.specs.Restart.{restartAnswer, restartMap}
 use Rattle.stripe.proofs.Accepted.{NoteFacts, facts-restart}
 use Rattle.promises.specs.Logged.{Appends, Raises}
-use Rattle.promises.specs.Run.{Piece, size, placeOf, Map, lost, live, Stripe, EmptyLog, begin, Step, note, noteCut, write, writeCut, restart, cut, noteOk, afterNote, afterWrite, scrambled, next}
+use Rattle.promises.specs.Run.{Piece, extentOf, placeOf, size, Map, lost, live, Stripe, EmptyLog, begin, Step, note, noteCut, write, writeCut, restart, cut, noteOk, afterNote, afterWrite, scrambled, next}
 use Rattle.promises.proofs.Logged.{accepted, appends, raises}
 
 abbrev pub entriesOf : Stripe → List Run
@@ -42,7 +44,7 @@ IsMap (live m) log = (soundMapBytes m ≡ true) × (runsOf width m ≡ mapOf (ru
 
 pub record Log (log : List ℕ) : Type 0 where
   pub sound : LogBytes log
-  pub small : (b : ℕ) → owner (runsOf width log) b ≤ highest width
+  pub small : (b : ℕ) → owner (runsOf width log) b ≤ highestAge
   pub few : length (mapOf (runsOf width log)) ≤ maxRuns
 
 pub record Carried (s : Stripe) : Type 0 where
@@ -52,17 +54,17 @@ pub record Carried (s : Stripe) : Type 0 where
 -- An accepted note: the log's bytes say one entry more, and the map's bytes are those of its map
 pub record Noted (m l : List ℕ) (p : Piece) (image : ℕ) : Type 0 where
   pub some : 0 < size p
-  pub log : Log (noteLog m l (p .first) (size p) (p .number) image)
-  pub entries : runsOf width (noteLog m l (p .first) (size p) (p .number) image) ≡ runsOf width l ++ (placeOf p ∷ [])
-  pub map : IsMap (live (noteMap m l (p .first) (size p) (p .number) image)) (noteLog m l (p .first) (size p) (p .number) image)
+  pub log : Log (noteLog m l (extentOf p) image)
+  pub entries : runsOf width (noteLog m l (extentOf p) image) ≡ runsOf width l ++ (placeOf p ∷ [])
+  pub map : IsMap (live (noteMap m l (extentOf p) image)) (noteLog m l (extentOf p) image)
 
-pub noted : (m log : List ℕ) (p : Piece) (image : ℕ) → Log log → IsMap (live m) log → eqb (noteAnswer m log (p .first) (size p) (p .number) image) 0 ≡ true → Noted m log p image
+pub noted : (m log : List ℕ) (p : Piece) (image : ℕ) → Log log → IsMap (live m) log → eqb (noteAnswer m log (extentOf p) image) 0 ≡ true → Noted m log p image
 noted m log p image L M e =
     record {
       some = F .placed .some;
       log = record {
         sound = log-bytes _ (A .sound);
-        small = λ b. rw (A .entries, owner-snoc (runsOf width log) r b) (let o = over-is (λ (k : ℕ). k ≤ highest width) r b (F .numbered .small) (omega arith) in omega (arith, L .small b));
+        small = λ b. rw (A .entries, owner-snoc (runsOf width log) r b) (let o = over-is (λ (k : ℕ). k ≤ highestAge) r b (F .numbered .fits) (omega arith) in omega (arith, L .small b));
         few = rw (A .entries, map-snoc (runsOf width log) r) (rw (M .1) at (F .few));
       };
       entries = A .entries;
@@ -72,19 +74,19 @@ noted m log p image L M e =
     r : Run
     r = placeOf p
 
-    z : noteAnswer m log (p .first) (size p) (p .number) image ≡ 0
+    z : noteAnswer m log (extentOf p) image ≡ 0
     z = eqb-true _ 0 e
 
-    F : NoteFacts (soundMapBytes m) (soundLogBytes log) (runsOf width m) (runsOf width log) (p .first) (size p) (p .number) image
-    F = accepted m log (p .first) (size p) (p .number) image z
+    F : NoteFacts (soundMapBytes m) (soundLogBytes log) (runsOf width m) (runsOf width log) (extentOf p) image
+    F = accepted m log (extentOf p) image z
 
-    A : Appends log r (noteLog m log (p .first) (size p) (p .number) image)
-    A = appends m log (p .first) (size p) (p .number) image z
+    A : Appends log r (noteLog m log (extentOf p) image)
+    A = appends m log (extentOf p) image z
 
-    R : Raises m r (noteMap m log (p .first) (size p) (p .number) image)
-    R = raises m log (p .first) (size p) (p .number) image z (λ b. rw (M .1, map-owner (runsOf width log) b) (L .small b))
+    R : Raises m r (noteMap m log (extentOf p) image)
+    R = raises m log (extentOf p) image z (λ b. rw (M .1, map-owner (runsOf width log) b) (L .small b))
 
-    drawn : raise r (runsOf width m) ≡ mapOf (runsOf width (noteLog m log (p .first) (size p) (p .number) image))
+    drawn : raise r (runsOf width m) ≡ mapOf (runsOf width (noteLog m log (extentOf p) image))
     drawn = ap (λ (l : List Run). raise r l) (M .1) ∙ sym (map-snoc (runsOf width log) r) ∙ ap mapOf (sym (A .entries))
 
 -- Bytes past the entries say nothing
@@ -129,33 +131,33 @@ restarted buffer log L e =
     sound : soundMap (mapOf (runsOf width log)) ≡ true
     sound = map-sound (runsOf width log) (log-is (runsOf width log) (L .sound .sound) .good) (L .few)
 
-    small : (b : ℕ) → owner (mapOf (runsOf width log)) b ≤ highest width
+    small : (b : ℕ) → owner (mapOf (runsOf width log)) b ≤ highestAge
     small b = rw (map-owner (runsOf width log) b) (L .small b)
 
 -- A refused note changes nothing
-pub same-log : (m log : List ℕ) (f n x i : ℕ) → eqb (noteAnswer m log f n x i) 0 ≡ false → noteLog m log f n x i ≡ log
+pub same-log : (m log : List ℕ) (x : Extent) (i : ℕ) → eqb (noteAnswer m log x i) 0 ≡ false → noteLog m log x i ≡ log
 unfolding noteLog
-same-log m log f n x i e = ap (λ (t : Bool). cond t (appended width log (place f n x)) log) e
+same-log m log x i e = ap (λ (t : Bool). cond t (appended width log (place x)) log) e
 
-pub same-map : (m log : List ℕ) (f n x i : ℕ) → eqb (noteAnswer m log f n x i) 0 ≡ false → noteMap m log f n x i ≡ m
+pub same-map : (m log : List ℕ) (x : Extent) (i : ℕ) → eqb (noteAnswer m log x i) 0 ≡ false → noteMap m log x i ≡ m
 unfolding noteMap
-same-map m log f n x i e = ap (λ (t : Bool). cond t (mapBytes width (raise (place f n x) (runsOf width m))) m) e
+same-map m log x i e = ap (λ (t : Bool). cond t (mapBytes width (raise (place x) (runsOf width m))) m) e
 
 -- Each step keeps what is carried
 note-kept : (mp : Map) (log image : List ℕ) (p : Piece) → Log log → IsMap mp log → Carried (afterNote (record { map = mp; log = log; image = image }) mp p)
 unfolding afterNote
 note-kept lost log image p L M = record { log = L; map = M }
-note-kept (live m) log image p L M = go (eqb (noteAnswer m log (p .first) (size p) (p .number) (length image)) 0) refl
+note-kept (live m) log image p L M = go (eqb (noteAnswer m log (extentOf p) (length image)) 0) refl
   where
     new : Stripe
-    new = record { map = live (noteMap m log (p .first) (size p) (p .number) (length image)); log = noteLog m log (p .first) (size p) (p .number) (length image); image = image }
+    new = record { map = live (noteMap m log (extentOf p) (length image)); log = noteLog m log (extentOf p) (length image); image = image }
 
-    go : (t : Bool) → eqb (noteAnswer m log (p .first) (size p) (p .number) (length image)) 0 ≡ t → Carried new
+    go : (t : Bool) → eqb (noteAnswer m log (extentOf p) (length image)) 0 ≡ t → Carried new
     go true e = let N = noted m log p (length image) L M e in record { log = N .log; map = N .map }
     go false e =
         record {
-          log = subst Log (sym (same-log m log (p .first) (size p) (p .number) (length image) e)) L;
-          map = subst₂ (λ (a l : List ℕ). IsMap (live a) l) (sym (same-map m log (p .first) (size p) (p .number) (length image) e)) (sym (same-log m log (p .first) (size p) (p .number) (length image) e)) M;
+          log = subst Log (sym (same-log m log (extentOf p) (length image) e)) L;
+          map = subst₂ (λ (a l : List ℕ). IsMap (live a) l) (sym (same-map m log (extentOf p) (length image) e)) (sym (same-log m log (extentOf p) (length image) e)) M;
         }
 
 write-kept : (mp : Map) (log image : List ℕ) (p : Piece) → Log log → IsMap mp log → Carried (afterWrite (record { map = mp; log = log; image = image }) mp p)

@@ -16,6 +16,7 @@ use Rattle.locks.specs.declared.Message.the-variants.{Request, Acknowledge, Dow
 use Rattle.locks.specs.Refusals.{rules}
 use Rattle.locks.specs.Events.{eventsSize}
 use Rattle.gilboreth.specs.Messages.{outcome}
+use Rattle.stripe.specs.Piece.{extent, piece}
 use Rattle.promises.specs.Demand1.{Entry, request, acknowledge, downgrade, release, note, write, restart, numbers, entryOf}
 use Rattle.promises.specs.Demand1.{Words, fields, Gets, message, noting, writing, restarting, Reached, Demand1}
 use Rattle.promises.proofs.Encoding.{blank-bytes, tableBytes, table-bytes}
@@ -102,18 +103,18 @@ reached release =
     also lone (Release 1 1) tt 10 refl
     also tt
 reached note =
-    noting [] [] 0 1 1 1 tt no-bytes no-bytes note-12
-    also noting map0 [] 0 1 1 1 tt map0-bytes no-bytes note-13
-    also noting map0 log0 0 0 1 1 tt map0-bytes log0-bytes note-14
-    also noting map0 log0 0 1 0 1 tt map0-bytes log0-bytes note-15
-    also noting (mapBytes width (spaced 1 1024)) log0 2049 1 1 2050 tt (map-bytes (spaced 1 1024)) log0-bytes note-16
-    also noting map0 (logged (replicate maxEntries one)) 0 1 1 1 tt map0-bytes (logged-bytes (replicate maxEntries one)) note-17
+    noting [] [] (extent 0 1 1) 1 tt no-bytes no-bytes note-12
+    also noting map0 [] (extent 0 1 1) 1 tt map0-bytes no-bytes note-13
+    also noting map0 log0 (extent 0 0 1) 1 tt map0-bytes log0-bytes note-14
+    also noting map0 log0 (extent 0 1 0) 1 tt map0-bytes log0-bytes note-15
+    also noting (mapBytes width (spaced 1 1024)) log0 (extent 2049 1 1) 2050 tt (map-bytes (spaced 1 1024)) log0-bytes note-16
+    also noting map0 (logged (replicate maxEntries one)) (extent 0 1 1) 1 tt map0-bytes (logged-bytes (replicate maxEntries one)) note-17
     also tt
 reached write =
-    writing [] 0 (0 ∷ []) 1 (0 ∷ []) tt no-bytes (blank-bytes 1) (blank-bytes 1) write-12
-    also writing map0 0 [] 1 (0 ∷ []) tt map0-bytes no-bytes (blank-bytes 1) write-14
-    also writing map0 0 (0 ∷ []) 0 (0 ∷ []) tt map0-bytes (blank-bytes 1) (blank-bytes 1) write-15
-    also writing map0 0 (0 ∷ []) 1 (0 ∷ []) tt map0-bytes (blank-bytes 1) (blank-bytes 1) write-18
+    writing [] (piece 0 (0 ∷ []) 1) (0 ∷ []) tt no-bytes (blank-bytes 1) (blank-bytes 1) write-12
+    also writing map0 (piece 0 [] 1) (0 ∷ []) tt map0-bytes no-bytes (blank-bytes 1) write-14
+    also writing map0 (piece 0 (0 ∷ []) 0) (0 ∷ []) tt map0-bytes (blank-bytes 1) (blank-bytes 1) write-15
+    also writing map0 (piece 0 (0 ∷ []) 1) (0 ∷ []) tt map0-bytes (blank-bytes 1) (blank-bytes 1) write-18
     also tt
 reached restart =
     restarting [] [] no-bytes no-bytes restart-12

@@ -20,9 +20,11 @@ use Rattle.locks.specs.Serve.{Outcome, refused}
 use Rattle.locks.specs.Events.{eventsOver}
 use Rattle.serve.specs.declared.Answer.{Answer}
 use Rattle.gilboreth.specs.Messages.{entryRules, outcome, Serves}
-use Rattle.gilboreth.specs.Note.{noteAnswer, noteMap, noteLog}
-use Rattle.gilboreth.specs.Write.{writeAnswer, writeImage}
-use Rattle.gilboreth.specs.Restart.{restartAnswer, restartMap}
+use Rattle.stripe.specs.declared.Extent.{Extent}
+use Rattle.stripe.specs.Piece.{Piece, extentOf}
+use Rattle.path.specs.Note.{noteAnswer, noteMap, noteLog}
+use Rattle.path.specs.Write.{writeAnswer, writeImage}
+use Rattle.path.specs.Restart.{restartAnswer, restartMap}
 use Rattle.promises.specs.Demand1.{Judged, Served, OfMessage, OfNote, OfWrite, OfRestart}
 use Rattle.promises.proofs.Encoding.{tableBytes, table-bytes, table-held}
 use Rattle.promises.proofs.Fitting.{sound-fits}
@@ -98,28 +100,28 @@ module _ (m : Message) (t b : List ℕ) where
     unchanged = alone;
   }
 
-pub of-note : (m l : List ℕ) (f n x i : ℕ) → OfNote m l f n x i
+pub of-note : (m l : List ℕ) (e : Extent) (i : ℕ) → OfNote m l e i
 unfolding noteAnswer
-of-note m l f n x i = record {
-  some = record { answer = noteAnswer m l f n x i; map = noteMap m l f n x i; log = noteLog m l f n x i };
+of-note m l e i = record {
+  some = record { answer = noteAnswer m l e i; map = noteMap m l e i; log = noteLog m l e i };
   meets = record { answers = refl; map = refl; log = refl };
   only = λ a b p q k. record { answer = (p .answers ∙ sym (q .answers)) k; map = (p .map ∙ sym (q .map)) k; log = (p .log ∙ sym (q .log)) k };
-  listed = λ a p. rw (p .answers) (note-listed m l f n x i);
+  listed = λ a p. rw (p .answers) (note-listed m l e i);
   judged = λ a p. rw (p .answers) (judged _);
   unchanged = λ a p h.
-      let r = note-refused m l f n x i (λ e. h (p .answers ∙ e)) in
+      let r = note-refused m l e i (λ z. h (p .answers ∙ z)) in
       λ k. record { answer = a .answer; map = (p .map ∙ r .0) k; log = (p .log ∙ r .1) k };
 }
 
-pub of-write : (m : List ℕ) (f : ℕ) (d : List ℕ) (x : ℕ) (i : List ℕ) → OfWrite m f d x i
+pub of-write : (m : List ℕ) (d : Piece) (i : List ℕ) → OfWrite m d i
 unfolding writeAnswer
-of-write m f d x i = record {
-  some = record { answer = writeAnswer m f (length d) x (length i); image = writeImage m f d x i };
+of-write m d i = record {
+  some = record { answer = writeAnswer m (extentOf d) (length i); image = writeImage m d i };
   meets = record { answers = refl; stores = refl };
   only = λ a b p q k. record { answer = (p .answers ∙ sym (q .answers)) k; image = (p .stores ∙ sym (q .stores)) k };
-  listed = λ a p. rw (p .answers) (write-listed m f (length d) x (length i));
+  listed = λ a p. rw (p .answers) (write-listed m (extentOf d) (length i));
   judged = λ a p. rw (p .answers) (judged _);
-  unchanged = λ a p h. let r = write-refused m f d x i (λ e. h (p .answers ∙ e)) in λ k. record { answer = a .answer; image = (p .stores ∙ r) k };
+  unchanged = λ a p h. let r = write-refused m d i (λ e. h (p .answers ∙ e)) in λ k. record { answer = a .answer; image = (p .stores ∙ r) k };
 }
 
 pub of-restart : (m l : List ℕ) → OfRestart m l

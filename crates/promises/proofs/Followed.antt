@@ -15,16 +15,18 @@ use Rattle.runs.specs.Sound.{soundMap, soundLog}
 use Rattle.runs.proofs.Unique.{map-snoc}
 use Rattle.runs.proofs.MapBytes.{map-runs}
 use Rattle.runs.proofs.LogBytes.{bytes-log}
-use Rattle.stripe.specs.Refusals.{place, noteRules, writeRules}
+use Rattle.stripe.specs.declared.Extent.{Extent}
+use Rattle.stripe.specs.Piece.{extent, place, piece}
+use Rattle.stripe.specs.Refusals.{noteRules, writeRules}
 use Rattle.stripe.specs.Stripe as rules
 use Rattle.stripe.specs.Stripe.{note, write, answer, noted, wrote, written}
-use Rattle.gilboreth.specs.Note.{noteAnswer, noteMap, noteLog}
-use Rattle.gilboreth.specs.Write.{writeAnswer, writeImage}
-use Rattle.promises.specs.Run.{Piece, size, live, Stripe, next, afterNote, afterWrite}
+use Rattle.path.specs.Note.{noteAnswer, noteMap, noteLog}
+use Rattle.path.specs.Write.{writeAnswer, writeImage}
+use Rattle.promises.specs.Run.{Piece, extentOf, ageOf, live, Stripe, next, afterNote, afterWrite}
 use Rattle.promises.specs.Run as run
 use Rattle.promises.specs.Examples.{Call, noting, writing}
 use Rattle.promises.specs.Examples as examples
-use Rattle.promises.specs.OnBytes.{piece, answers, after, runsIn}
+use Rattle.promises.specs.OnBytes.{answers, bytesAfter, runsIn}
 use Rattle.promises.proofs.Carried as c
 use Rattle.promises.proofs.Carried.{Carried, carried, same-log, same-map}
 
@@ -45,36 +47,36 @@ module _ (m log image : List ℕ) (C : Carried (stripe m log image)) where
   logs : soundLogBytes log ≡ soundLog (runsOf width log)
   logs = bytes-log log (C .log .sound) ∙ sym (C .log .sound .sound)
 
-  note-answer : (f n k : ℕ) → noteAnswer m log f n k (length image) ≡ note x f n k .refusal
+  note-answer : (e : Extent) → noteAnswer m log e (length image) ≡ note x e .refusal
   unfolding noteAnswer note
-  note-answer f n k = ap₂ (λ (a b : Bool). firstHit (noteRules a b (runsOf width m) (runsOf width log) f n k (length image))) maps logs
+  note-answer e = ap₂ (λ (a b : Bool). firstHit (noteRules a b (runsOf width m) (runsOf width log) e (length image))) maps logs
 
-  write-answer : (f : ℕ) (p : List ℕ) (k : ℕ) → writeAnswer m f (length p) k (length image) ≡ write x f p k .refusal
+  write-answer : (p : Piece) → writeAnswer m (extentOf p) (length image) ≡ write x p .refusal
   unfolding writeAnswer write
-  write-answer f p k = ap (λ (a : Bool). firstHit (writeRules a (runsOf width m) f (length p) k (length image))) maps
+  write-answer p = ap (λ (a : Bool). firstHit (writeRules a (runsOf width m) (extentOf p) (length image))) maps
 
-  write-stripe : (f : ℕ) (p : List ℕ) (k : ℕ) → decoded (stripe m log (writeImage m f p k image)) ≡ write x f p k .stripe
+  write-stripe : (p : Piece) → decoded (stripe m log (writeImage m p image)) ≡ write x p .stripe
   unfolding writeImage write
-  write-stripe f p k =
-      go (eqb (writeAnswer m f (length p) k (length image)) 0)
-      ∙ ap (λ (n : ℕ). cond (eqb n 0) (wrote x f p k) x) (write-answer f p k)
+  write-stripe p =
+      go (eqb (writeAnswer m (extentOf p) (length image)) 0)
+      ∙ ap (λ (n : ℕ). cond (eqb n 0) (wrote x p) x) (write-answer p)
     where
-      go : (b : Bool) → decoded (stripe m log (cond b (written (runsOf width m) f p k image) image)) ≡ cond b (wrote x f p k) x
+      go : (b : Bool) → decoded (stripe m log (cond b (written (runsOf width m) (p .first) (p .bytes) (ageOf p) image) image)) ≡ cond b (wrote x p) x
       go true = refl
       go false = refl
 
-  note-stripe : (p : Piece) → decoded (next (stripe m log image) (run.note p)) ≡ note x (p .first) (size p) (p .number) .stripe
+  note-stripe : (p : Piece) → decoded (next (stripe m log image) (run.note p)) ≡ note x (extentOf p) .stripe
   unfolding next afterNote note
-  note-stripe p = go (eqb a 0) refl ∙ ap (λ (n : ℕ). cond (eqb n 0) (noted x r) x) (note-answer (p .first) (size p) (p .number))
+  note-stripe p = go (eqb a 0) refl ∙ ap (λ (n : ℕ). cond (eqb n 0) (noted x r) x) (note-answer (extentOf p))
     where
       a : ℕ
-      a = noteAnswer m log (p .first) (size p) (p .number) (length image)
+      a = noteAnswer m log (extentOf p) (length image)
 
       r : Run
-      r = place (p .first) (size p) (p .number)
+      r = place (extentOf p)
 
       new : Stripe
-      new = stripe (noteMap m log (p .first) (size p) (p .number) (length image)) (noteLog m log (p .first) (size p) (p .number) (length image)) image
+      new = stripe (noteMap m log (extentOf p) (length image)) (noteLog m log (extentOf p) (length image)) image
 
       go : (b : Bool) → eqb a 0 ≡ b → decoded new ≡ cond b (noted x r) x
       go true e =
@@ -85,31 +87,31 @@ module _ (m log image : List ℕ) (C : Carried (stripe m log image)) where
             image = image;
           }
       go false e = λ i. record {
-        map = runsOf width (same-map m log (p .first) (size p) (p .number) (length image) e i);
-        log = runsOf width (same-log m log (p .first) (size p) (p .number) (length image) e i);
+        map = runsOf width (same-map m log (extentOf p) (length image) e i);
+        log = runsOf width (same-log m log (extentOf p) (length image) e i);
         image = image;
       }
 
 pub record Follows (s : Stripe) (x : rules.Stripe) (cs : List Call) : Type 0 where
   pub answers : answers s cs ≡ examples.answers x cs
-  pub stripe : decoded (after s cs) ≡ examples.after x cs
+  pub stripe : decoded (bytesAfter s cs) ≡ examples.afterCalls x cs
 
 pub follows : (cs : List Call) (m log image : List ℕ) → Carried (stripe m log image) → Follows (stripe m log image) (decoded (stripe m log image)) cs
 unfolding next afterNote afterWrite
 follows [] m log image C = record { answers = refl; stripe = refl }
-follows (noting f n k ∷ cs) m log image C =
-    let p : Piece = piece f (replicate n 0) k in
-    let F = follows cs (noteMap m log f (size p) k (length image)) (noteLog m log f (size p) k (length image)) image (carried (stripe m log image) (run.note p) C) in
-    let e : decoded (next (stripe m log image) (run.note p)) ≡ note (decoded (stripe m log image)) f n k .stripe =
-    note-stripe m log image C p ∙ ap (λ (j : ℕ). note (decoded (stripe m log image)) f j k .stripe) (length-replicate {A = ℕ} n 0) in
+follows (noting w ∷ cs) m log image C =
+    let p : Piece = piece (w .first) (replicate (w .len) 0) (w .number .0) in
+    let F = follows cs (noteMap m log (extentOf p) (length image)) (noteLog m log (extentOf p) (length image)) image (carried (stripe m log image) (run.note p) C) in
+    let e : decoded (next (stripe m log image) (run.note p)) ≡ note (decoded (stripe m log image)) w .stripe =
+    note-stripe m log image C p ∙ ap (λ (j : ℕ). note (decoded (stripe m log image)) (extent (w .first) j (w .number .0)) .stripe) (length-replicate {A = ℕ} (w .len) 0) in
     record {
-      answers = ap₂ (λ (a : ℕ) (l : List ℕ). a ∷ l) (note-answer m log image C f n k) (F .answers ∙ ap (λ (y : rules.Stripe). examples.answers y cs) e);
-      stripe = F .stripe ∙ ap (λ (y : rules.Stripe). examples.after y cs) e;
+      answers = ap₂ (λ (a : ℕ) (l : List ℕ). a ∷ l) (note-answer m log image C w) (F .answers ∙ ap (λ (y : rules.Stripe). examples.answers y cs) e);
+      stripe = F .stripe ∙ ap (λ (y : rules.Stripe). examples.afterCalls y cs) e;
     }
-follows (writing f p k ∷ cs) m log image C =
-    let F = follows cs m log (writeImage m f p k image) (carried (stripe m log image) (run.write (piece f p k)) C) in
-    let e = write-stripe m log image C f p k in
+follows (writing p ∷ cs) m log image C =
+    let F = follows cs m log (writeImage m p image) (carried (stripe m log image) (run.write p) C) in
+    let e = write-stripe m log image C p in
     record {
-      answers = ap₂ (λ (a : ℕ) (l : List ℕ). a ∷ l) (write-answer m log image C f p k) (F .answers ∙ ap (λ (y : rules.Stripe). examples.answers y cs) e);
-      stripe = F .stripe ∙ ap (λ (y : rules.Stripe). examples.after y cs) e;
+      answers = ap₂ (λ (a : ℕ) (l : List ℕ). a ∷ l) (write-answer m log image C p) (F .answers ∙ ap (λ (y : rules.Stripe). examples.answers y cs) e);
+      stripe = F .stripe ∙ ap (λ (y : rules.Stripe). examples.afterCalls y cs) e;
     }

@@ -27,7 +27,7 @@ use Rattle.promises.specs.Demand2.{Called}
 use Rattle.promises.specs.Run.{EmptyLog, begin}
 use Rattle.promises.specs.Examples.{Row, sending, calling, dots, computed, lines, session, examples, examples-hold}
 use Rattle.promises.specs.Examples as examples
-use Rattle.promises.specs.OnBytes.{shown, Prints, done, call, Holds, AllHold, OnBytes}
+use Rattle.promises.specs.OnBytes.{shown, Prints, done, call, RowHolds, AllHold, OnBytes}
 use Rattle.promises.proofs.Determined.{of-message}
 use Rattle.promises.proofs.Encoding.{blank-bytes}
 use Rattle.promises.proofs.Reached.{buffer, buffer-long}
@@ -83,7 +83,7 @@ imageOf (calling made answered m image) = image
 begins : (log : List ℕ) → EmptyLog log → decoded (begin log dots) ≡ examples.begin
 begins log E = λ i. record { map = no-runs (mapSize width) i; log = none-counted log (E .1) i; image = dots }
 
-row-holds : (r : Row) → computed r ≡ r → Holds r
+row-holds : (r : Row) → computed r ≡ r → RowHolds r
 unfolding printedOf answeredOf mapOf imageOf
 row-holds (sending sent printed) e =
     let zero-table : List ℕ = replicate (tableSize width) 0 in
@@ -93,7 +93,7 @@ row-holds (sending sent printed) e =
     (subst (λ (ls : List (List ℕ)). Prints zero-table sent ls) (only (some .0) (some .1)) (some .1), only)
 row-holds (calling made answered m image) e = λ log E.
     let F = follows made (replicate (mapSize width) 0) log dots (begin-carried log dots E) in
-    let s = F .stripe ∙ ap (λ (x : rules.Stripe). examples.after x made) (begins log E) in (
+    let s = F .stripe ∙ ap (λ (x : rules.Stripe). examples.afterCalls x made) (begins log E) in (
       F .answers ∙ ap (λ (x : rules.Stripe). examples.answers x made) (begins log E) ∙ ap answeredOf e,
       ap (λ (x : rules.Stripe). x .map) s ∙ ap mapOf e,
       ap (λ (x : rules.Stripe). x .image) s ∙ ap imageOf e,

@@ -9,6 +9,7 @@ use Rattle.common.specs.Counters.{width}
 use Rattle.common.specs.Tests.{upFrom}
 use Rattle.table.specs.Table.{Table, empty, lastOf}
 use Rattle.table.specs.Bytes.{tableSize}
+use Rattle.runs.specs.Ages.{valueOf}
 use Rattle.locks.specs.Session.{tableAfter, events, numbers}
 use Rattle.locks.proofs.Sessions.{session-numbers}
 use Rattle.promises.specs.Run.{Piece, Covers, begin, noted}
@@ -27,6 +28,7 @@ row-at a (suc k) zero h = omega arith
 row-at a (suc k) (suc i) h = let e = row-at (suc a) k i (omega arith) in omega arith
 
 pub seam : Seam
+unfolding valueOf
 seam ms es v S s i j h k log image run new agree sent finished b p q pin pn pc qin qn qc only =
     demand3 log image run new agree sent finished .under b q (qin, qc, (λ r m c. most r m c))
   where

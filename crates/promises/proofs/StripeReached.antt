@@ -12,18 +12,21 @@ use Rattle.runs.specs.declared.Run.{Run}
 use Rattle.runs.specs.Owner.{run, over, owner}
 use Rattle.runs.specs.Map.{mapOf, raise, draw, end, put, join}
 use Rattle.runs.specs.Sound.{maxRuns, maxEntries, allValid}
+use Rattle.runs.specs.Ages.{valueOf, age}
+use Rattle.runs.specs.Valid.{Valid}
 use Rattle.runs.specs.Bytes.{runLayout, runFields, runsOf, mapSize, logSize, soundMapBytes, soundLogBytes, bytesOf, mapBytes}
 use Rattle.xdr.specs.Array.{Fits}
-use Rattle.runs.proofs.Age.{pos-sane}
+use Rattle.runs.proofs.Ages.{age-run, oldest, oldest-sane}
 use Rattle.runs.proofs.Valid.{valid-cons}
 use Rattle.runs.proofs.Sound.{is-log}
 use Rattle.runs.proofs.Blank.{no-runs, empty-map, empty-log}
-use Rattle.runs.proofs.MapBytes.{bytes-length, bytes-back, map-back, map-back-sound}
+use Rattle.runs.proofs.MapBytes.{run-fits, bytes-length, bytes-back, map-back, map-back-sound}
 use Rattle.runs.proofs.LogBytes.{bytes-log}
-use Rattle.stripe.specs.Refusals.{place, behind}
-use Rattle.gilboreth.specs.Note.{noteAnswer}
-use Rattle.gilboreth.specs.Write.{writeAnswer}
-use Rattle.gilboreth.specs.Restart.{restartAnswer}
+use Rattle.stripe.specs.Piece.{extent, place}
+use Rattle.stripe.specs.Refusals.{behind}
+use Rattle.path.specs.Note.{noteAnswer}
+use Rattle.path.specs.Write.{writeAnswer}
+use Rattle.path.specs.Restart.{restartAnswer}
 use Rattle.promises.proofs.Spaced.{spaced, spaced-length, spaced-small, spaced-valid, spaced-fit, spaced-map, spaced-sound, spaced-raised}
 
 -- 12, 13, 14, 15 and 18 on an empty map and log
@@ -33,29 +36,29 @@ map0 = replicate (mapSize width) 0
 abbrev pub log0 : List ℕ
 log0 = replicate (logSize width) 0
 
-pub note-12 : noteAnswer [] [] 0 1 1 1 ≡ 12
+pub note-12 : noteAnswer [] [] (extent 0 1 1) 1 ≡ 12
 unfolding noteAnswer soundMapBytes
 note-12 = refl
 
-pub note-13 : noteAnswer map0 [] 0 1 1 1 ≡ 13
+pub note-13 : noteAnswer map0 [] (extent 0 1 1) 1 ≡ 13
 unfolding noteAnswer soundLogBytes
 note-13 = rw empty-map
 
-pub note-14 : noteAnswer map0 log0 0 0 1 1 ≡ 14
+pub note-14 : noteAnswer map0 log0 (extent 0 0 1) 1 ≡ 14
 unfolding noteAnswer
 note-14 = rw (empty-map, empty-log)
 
-pub note-15 : noteAnswer map0 log0 0 1 0 1 ≡ 15
+pub note-15 : noteAnswer map0 log0 (extent 0 1 0) 1 ≡ 15
 unfolding noteAnswer
 note-15 = rw (empty-map, empty-log)
 
 -- 16 by a piece beside 1,024 runs
-pub note-16 : noteAnswer (mapBytes width (spaced 1 1024)) log0 2049 1 1 2050 ≡ 16
-unfolding noteAnswer
+pub note-16 : noteAnswer (mapBytes width (spaced 1 1024)) log0 (extent 2049 1 1) 2050 ≡ 16
+unfolding noteAnswer age
 note-16 =
     let s = spaced-sound 1024 (omega arith) in
     let h = spaced-small 1 1024 in
-    let e : length (raise (place 2049 1 1) (spaced 1 1024)) ≡ 1025 = ap length (spaced-raised 1024) ∙ spaced-length 1 1025 in
+    let e : length (raise (place (extent 2049 1 1)) (spaced 1 1024)) ≡ 1025 = ap length (spaced-raised 1024) ∙ spaced-length 1 1025 in
     rw (map-back-sound (spaced 1 1024) s h, empty-log, map-back (spaced 1 1024) s h, e)
 
 -- A log with these entries
@@ -73,41 +76,44 @@ module _ (es : List Run) (fit : Fits (runLayout width) (map runFields es)) (good
 
 -- 17 by a log of 2,048 entries, all alike
 abbrev pub one : Run
-one = run 0 0 1
+one = run 0 0 oldest
+
+one-valid : Valid one
+one-valid = record { rising = omega arith; short = omega arith; some = oldest-sane }
 
 ones-valid : (n : ℕ) → allValid (replicate n one) ≡ true
 ones-valid zero = refl
-ones-valid (suc n) = valid-cons one (replicate n one) (record { rising = omega arith; short = omega arith; some = pos-sane 1 (omega arith) }) (ones-valid n)
+ones-valid (suc n) = valid-cons one (replicate n one) one-valid (ones-valid n)
 
 ones-fit : (n : ℕ) → Fits (runLayout width) (map runFields (replicate n one))
 ones-fit zero = tt
-ones-fit (suc n) = ((omega arith, (omega arith, (omega arith, tt))), ones-fit n)
+ones-fit (suc n) = (run-fits one one-valid (omega (arith, age-run 0 0 oldest)), ones-fit n)
 
-full : (n : ℕ) → n ≡ maxEntries → noteAnswer map0 (logged (replicate n one)) 0 1 1 1 ≡ 17
-unfolding noteAnswer mapOf draw end put join owner over
+full : (n : ℕ) → n ≡ maxEntries → noteAnswer map0 (logged (replicate n one)) (extent 0 1 1) 1 ≡ 17
+unfolding noteAnswer mapOf draw end put join owner over valueOf
 full n e =
     let long : length (replicate n one) ≡ n = length-replicate n one in
     let few : length (replicate n one) ≤ maxEntries = omega arith in
     rw (empty-map, logged-sound (replicate n one) (ones-fit n) (ones-valid n) few, no-runs (mapSize width), logged-back (replicate n one) (ones-fit n) (ones-valid n) few, long, le-leb maxEntries n (omega arith))
 
-pub note-17 : noteAnswer map0 (logged (replicate maxEntries one)) 0 1 1 1 ≡ 17
+pub note-17 : noteAnswer map0 (logged (replicate maxEntries one)) (extent 0 1 1) 1 ≡ 17
 note-17 = full maxEntries refl
 
 -- Write
-pub write-12 : writeAnswer [] 0 1 1 1 ≡ 12
+pub write-12 : writeAnswer [] (extent 0 1 1) 1 ≡ 12
 unfolding writeAnswer soundMapBytes
 write-12 = refl
 
-pub write-14 : writeAnswer map0 0 0 1 1 ≡ 14
+pub write-14 : writeAnswer map0 (extent 0 0 1) 1 ≡ 14
 unfolding writeAnswer
 write-14 = rw empty-map
 
-pub write-15 : writeAnswer map0 0 1 0 1 ≡ 15
+pub write-15 : writeAnswer map0 (extent 0 1 0) 1 ≡ 15
 unfolding writeAnswer
 write-15 = rw empty-map
 
-pub write-18 : writeAnswer map0 0 1 1 1 ≡ 18
-unfolding writeAnswer behind owner
+pub write-18 : writeAnswer map0 (extent 0 1 1) 1 ≡ 18
+unfolding writeAnswer behind owner valueOf
 write-18 = rw (empty-map, no-runs (mapSize width))
 
 -- Restart: 16 by a log whose map needs 1,025 runs

@@ -9,37 +9,40 @@ use borrow.Author.Tests.{ne-eqb}
 use Rattle.common.specs.Counters.{width}
 use Rattle.common.specs.Tests.{any}
 use Rattle.common.proofs.Refusals.{listed}
+use Rattle.runs.specs.Owner.{ageOf}
 use Rattle.runs.specs.Map.{mapOf, raise}
 use Rattle.runs.specs.Bytes.{runsOf, mapSize, soundMapBytes, soundLogBytes, mapBytes, appended}
-use Rattle.stripe.specs.Refusals.{place, noteRules, writeRules, restartRules}
+use Rattle.stripe.specs.declared.Extent.{Extent}
+use Rattle.stripe.specs.Piece.{place, Piece, extentOf, placeOf}
+use Rattle.stripe.specs.Refusals.{noteRules, writeRules, restartRules}
 use Rattle.stripe.specs.Stripe.{written}
-use Rattle.gilboreth.specs.Note.{noteAnswer, noteMap, noteLog}
-use Rattle.gilboreth.specs.Write.{writeAnswer, writeImage}
-use Rattle.gilboreth.specs.Restart.{restartAnswer, restartMap}
+use Rattle.path.specs.Note.{noteAnswer, noteMap, noteLog}
+use Rattle.path.specs.Write.{writeAnswer, writeImage}
+use Rattle.path.specs.Restart.{restartAnswer, restartMap}
 
 -- From the list
-pub note-listed : (m l : List ℕ) (f n x i : ℕ) → T (any (eqb (noteAnswer m l f n x i)) (0 ∷ 12 ∷ 13 ∷ 14 ∷ 15 ∷ 16 ∷ 17 ∷ []))
+pub note-listed : (m l : List ℕ) (e : Extent) (i : ℕ) → T (any (eqb (noteAnswer m l e i)) (0 ∷ 12 ∷ 13 ∷ 14 ∷ 15 ∷ 16 ∷ 17 ∷ []))
 unfolding noteAnswer
-note-listed m l f n x i = listed (noteRules (soundMapBytes m) (soundLogBytes l) (runsOf width m) (runsOf width l) f n x i)
+note-listed m l e i = listed (noteRules (soundMapBytes m) (soundLogBytes l) (runsOf width m) (runsOf width l) e i)
 
-pub write-listed : (m : List ℕ) (f n x i : ℕ) → T (any (eqb (writeAnswer m f n x i)) (0 ∷ 12 ∷ 14 ∷ 15 ∷ 18 ∷ []))
+pub write-listed : (m : List ℕ) (e : Extent) (i : ℕ) → T (any (eqb (writeAnswer m e i)) (0 ∷ 12 ∷ 14 ∷ 15 ∷ 18 ∷ []))
 unfolding writeAnswer
-write-listed m f n x i = listed (writeRules (soundMapBytes m) (runsOf width m) f n x i)
+write-listed m e i = listed (writeRules (soundMapBytes m) (runsOf width m) e i)
 
 pub restart-listed : (m l : List ℕ) → T (any (eqb (restartAnswer m l)) (0 ∷ 12 ∷ 13 ∷ 16 ∷ []))
 unfolding restartAnswer
 restart-listed m l = listed (restartRules (eqb (length m) (mapSize width)) (soundLogBytes l) (runsOf width l))
 
 -- A refused call changes no lent byte
-pub note-refused : (m l : List ℕ) (f n x i : ℕ) → (noteAnswer m l f n x i ≡ 0 → ⊥) → (noteMap m l f n x i ≡ m) × (noteLog m l f n x i ≡ l)
+pub note-refused : (m l : List ℕ) (e : Extent) (i : ℕ) → (noteAnswer m l e i ≡ 0 → ⊥) → (noteMap m l e i ≡ m) × (noteLog m l e i ≡ l)
 unfolding noteMap noteLog
-note-refused m l f n x i h =
-    let e = ne-eqb (noteAnswer m l f n x i) 0 h in
-    (ap (λ (t : Bool). cond t (mapBytes width (raise (place f n x) (runsOf width m))) m) e, ap (λ (t : Bool). cond t (appended width l (place f n x)) l) e)
+note-refused m l e i h =
+    let z = ne-eqb (noteAnswer m l e i) 0 h in
+    (ap (λ (t : Bool). cond t (mapBytes width (raise (place e) (runsOf width m))) m) z, ap (λ (t : Bool). cond t (appended width l (place e)) l) z)
 
-pub write-refused : (m : List ℕ) (f : ℕ) (p : List ℕ) (x : ℕ) (i : List ℕ) → (writeAnswer m f (length p) x (length i) ≡ 0 → ⊥) → writeImage m f p x i ≡ i
+pub write-refused : (m : List ℕ) (p : Piece) (i : List ℕ) → (writeAnswer m (extentOf p) (length i) ≡ 0 → ⊥) → writeImage m p i ≡ i
 unfolding writeImage
-write-refused m f p x i h = ap (λ (t : Bool). cond t (written (runsOf width m) f p x i) i) (ne-eqb (writeAnswer m f (length p) x (length i)) 0 h)
+write-refused m p i h = ap (λ (t : Bool). cond t (written (runsOf width m) (p .first) (p .bytes) (ageOf (placeOf p)) i) i) (ne-eqb (writeAnswer m (extentOf p) (length i)) 0 h)
 
 pub restart-refused : (m l : List ℕ) → (restartAnswer m l ≡ 0 → ⊥) → restartMap m l ≡ m
 unfolding restartMap

@@ -19,11 +19,11 @@ use Rattle.runs.specs.Bytes.{runsOf, soundMapBytes}
 use Rattle.runs.proofs.Over.{over-in, over-before, over-after, owner-snoc}
 use Rattle.runs.proofs.Draw.{map-owner}
 use Rattle.stripe.specs.Stripe.{written}
-use Rattle.gilboreth.specs.Write.{writeAnswer, writeImage}
-use Rattle.gilboreth.specs.Restart.{restartAnswer, restartMap}
-use Rattle.stripe.proofs.Accepted.{WriteFacts, write-facts}
+use Rattle.path.specs.Write.{writeAnswer, writeImage}
+use Rattle.path.specs.Restart.{restartAnswer, restartMap}
+use Rattle.stripe.proofs.Accepted.{WriteFacts, write-facts, numbered-pos}
 use Rattle.stripe.proofs.Stored.{written-length, written-in, written-out}
-use Rattle.promises.specs.Run.{Piece, ageOf, size, Covers, byteOf, placeOf, Map, lost, live, Stripe, Step, note, noteCut, write, writeCut, restart, cut, noteOk, writeOk, afterNote, afterWrite, scrambled, torn, unplugged, next, notes, Write, writes}
+use Rattle.promises.specs.Run.{Piece, extentOf, placeOf, ageOf, size, Covers, byteOf, Map, lost, live, Stripe, Step, note, noteCut, write, writeCut, restart, cut, noteOk, writeOk, afterNote, afterWrite, scrambled, torn, unplugged, next, notes, Write, writes}
 use Rattle.promises.proofs.Carried.{entriesOf, IsMap, Log, Carried, noted, same-log, scrambled-entries}
 
 pub covered : (p : Piece) (b : ℕ) → Covers p b ⊎ (Covers p b → ⊥)
@@ -76,40 +76,40 @@ pub data View (s s′ : Stripe) : List Piece → List Write → Type 0 where
   wrote : (p : Piece) (c : Bool) → Wrote s s′ p c → View s s′ [] (record { piece = p; whole = c } ∷ [])
 
 -- An accepted write of any bytes v in the piece's place
-module _ (m log image : List ℕ) (p : Piece) (M : IsMap (live m) log) (e : writeAnswer m (p .first) (size p) (p .number) (length image) ≡ 0) where
-  F : WriteFacts (soundMapBytes m) (runsOf width m) (p .first) (size p) (p .number) (length image)
+module _ (m log image : List ℕ) (p : Piece) (M : IsMap (live m) log) (e : writeAnswer m (extentOf p) (length image) ≡ 0) where
+  F : WriteFacts (soundMapBytes m) (runsOf width m) (extentOf p) (length image)
   unfolding writeAnswer
-  F = write-facts (soundMapBytes m) (runsOf width m) (p .first) (size p) (p .number) (length image) e
+  F = write-facts (soundMapBytes m) (runsOf width m) (extentOf p) (length image) e
 
   same-owner : (b : ℕ) → owner (runsOf width m) b ≡ owner (runsOf width log) b
   same-owner b = ap (λ (rs : List Run). owner rs b) (M .1) ∙ map-owner (runsOf width log) b
 
   module _ (v : List ℕ) (n : length v ≡ size p) where
     abbrev image′ : List ℕ
-    image′ = written (runsOf width m) (p .first) v (p .number) image
+    image′ = written (runsOf width m) (p .first) v (ageOf p) image
 
     kept : (b : ℕ) → (Covers p b → owner (runsOf width log) b ≡ ageOf p → ⊥) → getD image′ b 0 ≡ getD image b 0
-    kept b h = written-out (runsOf width m) (p .first) v (p .number) image b (λ x y o. h (x, omega arith) (sym (same-owner b) ∙ o))
+    kept b h = written-out (runsOf width m) (p .first) v (ageOf p) image b (λ x y o. h (x, omega arith) (sym (same-owner b) ∙ o))
 
     put : (b : ℕ) → Covers p b → owner (runsOf width log) b ≡ ageOf p → getD image′ b 0 ≡ getD v (b - p .first) 0
-    put b c o = written-in (runsOf width m) (p .first) v (p .number) image b (c .0) (omega arith) (omega (arith, F .placed .inside, c .1)) (same-owner b ∙ o)
+    put b c o = written-in (runsOf width m) (p .first) v (ageOf p) image b (c .0) (omega arith) (omega (arith, F .placed .inside, c .1)) (same-owner b ∙ o)
 
     pub stored : (mp : Map) (c : Bool) → (c ≡ true → v ≡ p .bytes) → Wrote (record { map = live m; log = log; image = image }) (record { map = mp; log = log; image = image′ }) p c
     stored mp c w =
         record {
           log = refl;
-          long = written-length (runsOf width m) (p .first) v (p .number) image;
-          some = F .numbered .some;
+          long = written-length (runsOf width m) (p .first) v (ageOf p) image;
+          some = numbered-pos (extentOf p) (F .numbered);
           above = λ b k. rw (← same-owner b) (F .above b (k .0) (k .1));
           kept = kept;
           put = λ t b k o. put b k o ∙ ap (λ (x : List ℕ). getD x (b - p .first) 0) (w t);
         }
 
 -- the image that a write leaves, accepted and refused
-image-is : (m image : List ℕ) (p : Piece) (t : Bool) → eqb (writeAnswer m (p .first) (size p) (p .number) (length image)) 0 ≡ t
-    → writeImage m (p .first) (p .bytes) (p .number) image ≡ cond t (written (runsOf width m) (p .first) (p .bytes) (p .number) image) image
+image-is : (m image : List ℕ) (p : Piece) (t : Bool) → eqb (writeAnswer m (extentOf p) (length image)) 0 ≡ t
+    → writeImage m p image ≡ cond t (written (runsOf width m) (p .first) (p .bytes) (ageOf p) image) image
 unfolding writeImage
-image-is m image p t e = ap (λ (t : Bool). cond t (written (runsOf width m) (p .first) (p .bytes) (p .number) image) image) e
+image-is m image p t e = ap (λ (t : Bool). cond t (written (runsOf width m) (p .first) (p .bytes) (ageOf p) image) image) e
 
 -- An accepted note, with the map live
 record Grown (s : Stripe) (log : List ℕ) (p : Piece) : Type 0 where
@@ -133,7 +133,7 @@ image-kept s (live m) p = refl
 log-kept : (s : Stripe) (mp : Map) (p : Piece) → noteOk s mp p ≡ false → afterNote s mp p .log ≡ s .log
 unfolding afterNote noteOk
 log-kept s lost p e = refl
-log-kept s (live m) p e = same-log m (s .log) (p .first) (size p) (p .number) (length (s .image)) e
+log-kept s (live m) p e = same-log m (s .log) (extentOf p) (length (s .image)) e
 
 note-view : (s : Stripe) (p : Piece) → Carried s → View s (afterNote s (s .map) p) (cond (noteOk s (s .map) p) (p ∷ []) []) []
 note-view s p C = go (noteOk s (s .map) p) refl
@@ -157,16 +157,16 @@ write-view : (mp : Map) (log image : List ℕ) (p : Piece) → IsMap mp log
     → View (record { map = mp; log = log; image = image }) (afterWrite (record { map = mp; log = log; image = image }) mp p) [] (cond (writeOk (record { map = mp; log = log; image = image }) mp p) (record { piece = p; whole = true } ∷ []) [])
 unfolding afterWrite writeOk
 write-view lost log image p M = quiet refl refl
-write-view (live m) log image p M = go (eqb (writeAnswer m (p .first) (size p) (p .number) (length image)) 0) refl
+write-view (live m) log image p M = go (eqb (writeAnswer m (extentOf p) (length image)) 0) refl
   where
     s : Stripe
     s = record { map = live m; log = log; image = image }
 
-    go : (t : Bool) → eqb (writeAnswer m (p .first) (size p) (p .number) (length image)) 0 ≡ t
-        → View s (record { map = live m; log = log; image = writeImage m (p .first) (p .bytes) (p .number) image }) [] (cond t (record { piece = p; whole = true } ∷ []) [])
+    go : (t : Bool) → eqb (writeAnswer m (extentOf p) (length image)) 0 ≡ t
+        → View s (record { map = live m; log = log; image = writeImage m p image }) [] (cond t (record { piece = p; whole = true } ∷ []) [])
     go true e =
         subst (λ (i : List ℕ). View s (record { map = live m; log = log; image = i }) [] (record { piece = p; whole = true } ∷ [])) (sym (image-is m image p true e))
-        (wrote p true (stored m log image p M (eqb-true (writeAnswer m (p .first) (size p) (p .number) (length image)) 0 e) (p .bytes) refl (live m) true (λ _. refl)))
+        (wrote p true (stored m log image p M (eqb-true (writeAnswer m (extentOf p) (length image)) 0 e) (p .bytes) refl (live m) true (λ _. refl)))
     go false e = quiet (image-is m image p false e) refl
 
 torn-view : (mp : Map) (log image : List ℕ) (junk : ℕ → ℕ) (p : Piece) → IsMap mp log
@@ -174,15 +174,15 @@ torn-view : (mp : Map) (log image : List ℕ) (junk : ℕ → ℕ) (p : Piece) �
     (cond (writeOk (record { map = mp; log = log; image = image }) mp p) (record { piece = p; whole = false } ∷ []) [])
 unfolding torn writeOk
 torn-view lost log image junk p M = quiet refl refl
-torn-view (live m) log image junk p M = go (eqb (writeAnswer m (p .first) (size p) (p .number) (length image)) 0) refl
+torn-view (live m) log image junk p M = go (eqb (writeAnswer m (extentOf p) (length image)) 0) refl
   where
     s : Stripe
     s = record { map = live m; log = log; image = image }
 
-    go : (t : Bool) → eqb (writeAnswer m (p .first) (size p) (p .number) (length image)) 0 ≡ t
-        → View s (unplugged log (cond t (written (runsOf width m) (p .first) (tab (size p) junk) (p .number) image) image)) [] (cond t (record { piece = p; whole = false } ∷ []) [])
+    go : (t : Bool) → eqb (writeAnswer m (extentOf p) (length image)) 0 ≡ t
+        → View s (unplugged log (cond t (written (runsOf width m) (p .first) (tab (size p) junk) (ageOf p) image) image)) [] (cond t (record { piece = p; whole = false } ∷ []) [])
     go true e =
-        wrote p false (stored m log image p M (eqb-true (writeAnswer m (p .first) (size p) (p .number) (length image)) 0 e) (tab (size p) junk) (length-tab (size p) junk) lost false (λ z. never z))
+        wrote p false (stored m log image p M (eqb-true (writeAnswer m (extentOf p) (length image)) 0 e) (tab (size p) junk) (length-tab (size p) junk) lost false (λ z. never z))
     go false e = quiet refl refl
 
 pub view : (s : Stripe) (e : Step) → Carried s → View s (next s e) (notes s e) (writes s e)

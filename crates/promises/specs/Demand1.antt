@@ -16,12 +16,14 @@ use Rattle.locks.specs.declared.Message.{Message}
 use Rattle.locks.specs.declared.Message.the-variants.{Request, Acknowledge, Downgrade, Release}
 use Rattle.locks.specs.Refusals.{rules}
 use Rattle.runs.specs.Bytes.{runsOf, mapSize, soundMapBytes, soundLogBytes}
+use Rattle.stripe.specs.declared.Extent.{Extent}
+use Rattle.stripe.specs.Piece.{Piece, extentOf}
 use Rattle.stripe.specs.Refusals.{writeRules, restartRules}
 use Rattle.serve.specs.declared.Answer.{Answer}
 use Rattle.gilboreth.specs.Messages.{entryRules, outcome, Serves}
-use Rattle.gilboreth.specs.Note.{noteList, noteAnswer, Notes}
-use Rattle.gilboreth.specs.Write.{writeAnswer, Writes}
-use Rattle.gilboreth.specs.Restart.{restartAnswer, Restarts}
+use Rattle.path.specs.Note.{noteList, noteAnswer, Notes}
+use Rattle.path.specs.Write.{writeAnswer, Writes}
+use Rattle.path.specs.Restart.{restartAnswer, Restarts}
 
 -- "the first hit in the stated order": n is the number of a rule that the call breaks, and it keeps every rule before that one
 abbrev pub keeps : List Rule → Bool
@@ -109,20 +111,20 @@ OfMessage m table events =
     (λ n. record { answer = record { refusal = n; handle = 0; events = 0 }; table = table; events = events })
 
 -- Note, write and restart
-abbrev pub OfNote : List ℕ → List ℕ → ℕ → ℕ → ℕ → ℕ → Type 0
-OfNote map log first len number image =
+abbrev pub OfNote : List ℕ → List ℕ → Extent → ℕ → Type 0
+OfNote map log e image =
     Promised {R = Noted}
-    (λ x. Notes map log first len number image (x .answer) (x .map) (x .log))
+    (λ x. Notes map log e image (x .answer) (x .map) (x .log))
     (λ x. x .answer)
-    (noteList map log first len number image) (numbers note)
+    (noteList map log e image) (numbers note)
     (λ n. record { answer = n; map = map; log = log })
 
-abbrev pub OfWrite : List ℕ → ℕ → List ℕ → ℕ → List ℕ → Type 0
-OfWrite map first piece number image =
+abbrev pub OfWrite : List ℕ → Piece → List ℕ → Type 0
+OfWrite map p image =
     Promised {R = Written}
-    (λ x. Writes map first piece number image (x .answer) (x .image))
+    (λ x. Writes map p image (x .answer) (x .image))
     (λ x. x .answer)
-    (writeRules (soundMapBytes map) (runsOf width map) first (length piece) number (length image)) (numbers write)
+    (writeRules (soundMapBytes map) (runsOf width map) (extentOf p) (length image)) (numbers write)
     (λ n. record { answer = n; image = image })
 
 abbrev pub OfRestart : List ℕ → List ℕ → Type 0
@@ -147,10 +149,10 @@ fields (Release c h) = c ∷ h ∷ []
 pub data Gets : Entry → ℕ → Type 0 where
   message : {n : ℕ} (m : Message) (table events : List ℕ)
       → Words (fields m) → Bytes table → Bytes events → outcome m table events .refusal ≡ n → Gets (entryOf m) n
-  noting : {n : ℕ} (map log : List ℕ) (first len number image : ℕ)
-      → Words (first ∷ len ∷ number ∷ image ∷ []) → Bytes map → Bytes log → noteAnswer map log first len number image ≡ n → Gets note n
-  writing : {n : ℕ} (map : List ℕ) (first : ℕ) (piece : List ℕ) (number : ℕ) (image : List ℕ)
-      → Words (first ∷ number ∷ []) → Bytes map → Bytes piece → Bytes image → writeAnswer map first (length piece) number (length image) ≡ n → Gets write n
+  noting : {n : ℕ} (map log : List ℕ) (e : Extent) (image : ℕ)
+      → Words (e .first ∷ e .len ∷ e .number .0 ∷ image ∷ []) → Bytes map → Bytes log → noteAnswer map log e image ≡ n → Gets note n
+  writing : {n : ℕ} (map : List ℕ) (p : Piece) (image : List ℕ)
+      → Words (p .first ∷ p .number ∷ []) → Bytes map → Bytes (p .bytes) → Bytes image → writeAnswer map (extentOf p) (length image) ≡ n → Gets write n
   restarting : {n : ℕ} (map log : List ℕ) → Bytes map → Bytes log → restartAnswer map log ≡ n → Gets restart n
 
 abbrev pub Reached : Entry → List ℕ → Type 0
@@ -159,8 +161,8 @@ Reached e (n ∷ ns) = Gets e n × Reached e ns
 
 pub record Demand1 : Type 0 where
   pub messages : (m : Message) (table events : List ℕ) → Bytes table → OfMessage m table events
-  pub notes : (map log : List ℕ) (first len number image : ℕ) → OfNote map log first len number image
-  pub writes : (map : List ℕ) (first : ℕ) (piece : List ℕ) (number : ℕ) (image : List ℕ) → OfWrite map first piece number image
+  pub notes : (map log : List ℕ) (e : Extent) (image : ℕ) → OfNote map log e image
+  pub writes : (map : List ℕ) (p : Piece) (image : List ℕ) → OfWrite map p image
   pub restarts : (map log : List ℕ) → OfRestart map log
   -- "For each number 1 to 18 an input that gets it, so that no refusal is dead": for each number of each entry
   pub reached : (e : Entry) → Reached e (numbers e)

@@ -13,9 +13,12 @@ use Rattle.locks.specs.Refusals.{rules}
 use Rattle.locks.specs.Serve.{Outcome, serve, change, answered}
 use Rattle.locks.specs.Events.{eventFields}
 use Rattle.runs.specs.declared.Run.{Run}
+use Rattle.runs.specs.Ages.{valueOf, age}
 use Rattle.runs.specs.Owner.{run, over, owner}
 use Rattle.runs.specs.Map.{mapOf, end, draw, put, join}
 use Rattle.runs.specs.Sound.{soundMap, soundLog, sane, apart}
+use Rattle.stripe.specs.declared.Extent.{Extent}
+use Rattle.stripe.specs.Piece.{extent, Piece, piece}
 use Rattle.stripe.specs.Refusals.{behind}
 use Rattle.stripe.specs.Stripe as s
 use Rattle.stripe.specs.Stripe.{Stripe, note, write, stored}
@@ -31,20 +34,20 @@ session t (m ∷ ms) = let o = serve t m in lines o ++ session (o .table) ms
 
 -- The stripe: calls from an empty map and log and an image of ten dots, what they answer, and the map and image that they leave
 pub data Call : Type 0 where
-  noting : (first len number : ℕ) → Call
-  writing : (first : ℕ) (piece : List ℕ) (number : ℕ) → Call
+  noting : Extent → Call
+  writing : Piece → Call
 
 abbrev pub call : Stripe → Call → s.Outcome
-call x (noting first len number) = note x first len number
-call x (writing first piece number) = write x first piece number
+call x (noting e) = note x e
+call x (writing p) = write x p
 
 abbrev pub answers : Stripe → List Call → List ℕ
 answers x [] = []
 answers x (c ∷ cs) = let o = call x c in o .refusal ∷ answers (o .stripe) cs
 
-abbrev pub after : Stripe → List Call → Stripe
-after x [] = x
-after x (c ∷ cs) = after (call x c .stripe) cs
+abbrev pub afterCalls : Stripe → List Call → Stripe
+afterCalls x [] = x
+afterCalls x (c ∷ cs) = afterCalls (call x c .stripe) cs
 
 abbrev pub dots : List ℕ
 dots = replicate 10 46
@@ -60,26 +63,26 @@ pub data Row : Type 0 where
 -- The row with what the rules say comes of it
 abbrev pub computed : Row → Row
 computed (sending sent printed) = sending sent (session empty sent)
-computed (calling made answered map image) = calling made (answers begin made) (after begin made .map) (after begin made .image)
+computed (calling made answered map image) = calling made (answers begin made) (afterCalls begin made .map) (afterCalls begin made .image)
 
 -- The pieces of P8 to P11: where, the letter, and the number
 abbrev noteA : Call
-noteA = noting 0 6 2
+noteA = noting (extent 0 6 2)
 
 abbrev noteB : Call
-noteB = noting 4 4 1
+noteB = noting (extent 4 4 1)
 
 abbrev noteC : Call
-noteC = noting 5 3 3
+noteC = noting (extent 5 3 3)
 
 abbrev A : Call
-A = writing 0 (replicate 6 65) 2
+A = writing (piece 0 (replicate 6 65) 2)
 
 abbrev B : Call
-B = writing 4 (replicate 4 66) 1
+B = writing (piece 4 (replicate 4 66) 1)
 
 abbrev C : Call
-C = writing 5 (replicate 3 67) 3
+C = writing (piece 5 (replicate 3 67) 3)
 
 -- `AAAAACCC..`
 abbrev owned : List ℕ
@@ -92,7 +95,7 @@ inOrder x y z = calling (noteA ∷ noteB ∷ noteC ∷ x ∷ y ∷ z ∷ []) (re
 -- Then note [8,9] number 3: second run [5,9]; and what comes after it
 abbrev joined : List Call → List ℕ → Row
 joined more says =
-    calling (noteA ∷ noteB ∷ noteC ∷ A ∷ B ∷ C ∷ noting 8 2 3 ∷ more) (replicate 7 0 ++ says) (run 0 4 2 ∷ run 5 9 3 ∷ []) owned
+    calling (noteA ∷ noteB ∷ noteC ∷ A ∷ B ∷ C ∷ noting (extent 8 2 3) ∷ more) (replicate 7 0 ++ says) (run 0 4 2 ∷ run 5 9 3 ∷ []) owned
 
 unfoldable pub examples : List Row
 examples =
@@ -164,10 +167,10 @@ examples =
     ∷ inOrder C B A
     -- P9, P10, P11
     ∷ joined [] []
-    ∷ joined (writing 8 (replicate 2 69) 4 ∷ []) (18 ∷ [])
-    ∷ joined (noting 8 0 3 ∷ writing 8 [] 3 ∷ []) (14 ∷ 14 ∷ [])
+    ∷ joined (writing (piece 8 (replicate 2 69) 4) ∷ []) (18 ∷ [])
+    ∷ joined (noting (extent 8 0 3) ∷ writing (piece 8 [] 3) ∷ []) (14 ∷ 14 ∷ [])
     ∷ []
 
 pub examples-hold : map computed examples ≡ examples
-unfolding examples serve rules change answered settle turns turn grant widest conflict note write stored behind soundMap soundLog sane apart mapOf end draw put join owner over
+unfolding examples serve rules change answered settle turns turn grant widest conflict note write stored behind soundMap soundLog sane apart mapOf end draw put join owner over age valueOf
 examples-hold = refl

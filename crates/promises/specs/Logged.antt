@@ -12,8 +12,9 @@ use Rattle.runs.specs.declared.Run.{Run}
 use Rattle.runs.specs.Owner.{over, owner}
 use Rattle.runs.specs.Map.{raise}
 use Rattle.runs.specs.Bytes.{runLayout, runsOf, runsEnd, soundMapBytes, soundLogBytes, mapBytes}
-use Rattle.stripe.specs.Refusals.{place}
-use Rattle.gilboreth.specs.Note.{Notes}
+use Rattle.stripe.specs.declared.Extent.{Extent}
+use Rattle.stripe.specs.Piece.{place}
+use Rattle.path.specs.Note.{Notes}
 
 -- The log l becomes l′ by the entry r, whose bytes stand where the entries of l end
 pub record Appends (l : List ℕ) (r : Run) (l′ : List ℕ) : Type 0 where
@@ -34,6 +35,6 @@ pub record Raises (m : List ℕ) (r : Run) (m′ : List ℕ) : Type 0 where
 -- A slice of bytes holds bytes: of the map this is said openly
 abbrev pub Logged : Type 0
 Logged =
-    (m l : List ℕ) (first len number image answer : ℕ) (m′ l′ : List ℕ)
-    → Notes m l first len number image answer m′ l′ → answer ≡ 0
-    → Appends l (place first len number) l′ × (Bytes m → Raises m (place first len number) m′)
+    (m l : List ℕ) (e : Extent) (image answer : ℕ) (m′ l′ : List ℕ)
+    → Notes m l e image answer m′ l′ → answer ≡ 0
+    → Appends l (place e) l′ × (Bytes m → Raises m (place e) m′)

@@ -14,10 +14,11 @@ use Rattle.runs.specs.declared.Run.{Run}
 use Rattle.runs.specs.Bytes.{runsOf}
 use Rattle.serve.specs.declared.Answer.{Answer}
 use Rattle.gilboreth.specs.Messages.{Serves}
-use Rattle.gilboreth.specs.Note.{noteAnswer}
-use Rattle.gilboreth.specs.Write.{writeAnswer}
+use Rattle.stripe.specs.Piece.{piece, extentOf}
+use Rattle.path.specs.Note.{noteAnswer}
+use Rattle.path.specs.Write.{writeAnswer}
 use Rattle.promises.specs.Run as run
-use Rattle.promises.specs.Run.{Piece, Map, lost, live, Stripe, EmptyLog, begin, Step, next}
+use Rattle.promises.specs.Run.{Map, lost, live, Stripe, EmptyLog, begin, Step, next}
 use Rattle.promises.specs.Examples.{Call, noting, writing, Row, sending, calling, dots, examples}
 
 -- The lines of messages from the table's bytes t on: of each call refusal and handle, and the events that its buffer then holds
@@ -30,41 +31,38 @@ pub data Prints : List ℕ → List Message → List (List ℕ) → Type 0 where
       → eventsSize width ≤ length b → Serves m t b r u c → Prints u ms ls → Prints t (m ∷ ms) (shown r c ++ ls)
 
 -- A call as a step of a run: a note is told how long the piece is
-abbrev pub piece : ℕ → List ℕ → ℕ → Piece
-piece first bytes number = record { first = first; bytes = bytes; number = number }
-
 abbrev pub step : Call → Step
-step (noting first len number) = run.note (piece first (replicate len 0) number)
-step (writing first bytes number) = run.write (piece first bytes number)
+step (noting e) = run.note (piece (e .first) (replicate (e .len) 0) (e .number .0))
+step (writing p) = run.write p
 
 abbrev pub answerOf : Stripe → Map → Call → ℕ
 answerOf s lost c = 0
-answerOf s (live m) (noting first len number) = noteAnswer m (s .log) first len number (length (s .image))
-answerOf s (live m) (writing first bytes number) = writeAnswer m first (length bytes) number (length (s .image))
+answerOf s (live m) (noting e) = noteAnswer m (s .log) e (length (s .image))
+answerOf s (live m) (writing p) = writeAnswer m (extentOf p) (length (s .image))
 
 abbrev pub answers : Stripe → List Call → List ℕ
 answers s [] = []
 answers s (c ∷ cs) = answerOf s (s .map) c ∷ answers (next s (step c)) cs
 
-abbrev pub after : Stripe → List Call → Stripe
-after s [] = s
-after s (c ∷ cs) = after (next s (step c)) cs
+abbrev pub bytesAfter : Stripe → List Call → Stripe
+bytesAfter s [] = s
+bytesAfter s (c ∷ cs) = bytesAfter (next s (step c)) cs
 
 abbrev pub runsIn : Map → List Run
 runsIn lost = []
 runsIn (live m) = runsOf width m
 
 -- A row holds on bytes: the calls print its lines, and whatever buffers are lent for events, no other; and from whatever empty log
-abbrev pub Holds : Row → Type 0
-Holds (sending sent printed) =
+abbrev pub RowHolds : Row → Type 0
+RowHolds (sending sent printed) =
     Prints (replicate (tableSize width) 0) sent printed × ((ls : List (List ℕ)) → Prints (replicate (tableSize width) 0) sent ls → ls ≡ printed)
-Holds (calling made answered map image) =
+RowHolds (calling made answered map image) =
     (log : List ℕ) → EmptyLog log
-    → (answers (begin log dots) made ≡ answered) × (runsIn (after (begin log dots) made .map) ≡ map) × (after (begin log dots) made .image ≡ image)
+    → (answers (begin log dots) made ≡ answered) × (runsIn (bytesAfter (begin log dots) made .map) ≡ map) × (bytesAfter (begin log dots) made .image ≡ image)
 
 abbrev pub AllHold : List Row → Type 0
 AllHold [] = Unit {0}
-AllHold (r ∷ rs) = Holds r × AllHold rs
+AllHold (r ∷ rs) = RowHolds r × AllHold rs
 
 abbrev pub OnBytes : Type 0
 OnBytes = AllHold examples

@@ -8,23 +8,17 @@ use lib.ListN.{length, getD, replicate}
 use Rattle.common.specs.Counters.{width}
 use Rattle.xdr.specs.Be.{be}
 use Rattle.xdr.specs.Tab.{tab}
-use Rattle.runs.specs.declared.Run.{Run}
 use Rattle.runs.specs.Bytes.{runsOf, runsEnd, mapSize, logSize}
-use Rattle.stripe.specs.Refusals.{place}
+use Rattle.runs.specs.Owner as runs
+pub use Rattle.stripe.specs.Piece.{Piece, extentOf, placeOf}
 use Rattle.stripe.specs.Stripe.{written}
-use Rattle.gilboreth.specs.Note.{noteAnswer, noteMap, noteLog}
-use Rattle.gilboreth.specs.Write.{writeAnswer, writeImage}
-use Rattle.gilboreth.specs.Restart.{restartAnswer, restartMap}
-
--- A piece: its first byte, its bytes and its number. Two pieces with all three alike are one piece
-pub record Piece : Type 0 where
-  pub first : ℕ
-  pub bytes : List ℕ
-  pub number : ℕ
+use Rattle.path.specs.Note.{noteAnswer, noteMap, noteLog}
+use Rattle.path.specs.Write.{writeAnswer, writeImage}
+use Rattle.path.specs.Restart.{restartAnswer, restartMap}
 
 -- By what pieces are judged
 abbrev pub ageOf : Piece → ℕ
-ageOf p = p .number
+ageOf p = runs.ageOf (placeOf p)
 
 abbrev pub size : Piece → ℕ
 size p = length (p .bytes)
@@ -35,10 +29,6 @@ Covers p b = (p .first ≤ b) × (b < p .first + size p)
 
 abbrev pub byteOf : Piece → ℕ → ℕ
 byteOf p b = getD (p .bytes) (b - p .first) 0
-
--- Its place, as its entry in the log says it
-abbrev pub placeOf : Piece → Run
-placeOf p = place (p .first) (size p) (p .number)
 
 -- The stripe's buffers. "After any cut the map is lost"
 pub data Map : Type 0 where
@@ -70,26 +60,26 @@ pub data Step : Type 0 where
 -- Would the call answer 0? With the map lost "no note or write follows"
 unfoldable pub noteOk : Stripe → Map → Piece → Bool
 noteOk s lost p = false
-noteOk s (live m) p = eqb (noteAnswer m (s .log) (p .first) (size p) (p .number) (length (s .image))) 0
+noteOk s (live m) p = eqb (noteAnswer m (s .log) (extentOf p) (length (s .image))) 0
 
 unfoldable pub writeOk : Stripe → Map → Piece → Bool
 writeOk s lost p = false
-writeOk s (live m) p = eqb (writeAnswer m (p .first) (size p) (p .number) (length (s .image))) 0
+writeOk s (live m) p = eqb (writeAnswer m (extentOf p) (length (s .image))) 0
 
 -- What each call leaves when it runs to its end
 unfoldable pub afterNote : Stripe → Map → Piece → Stripe
 afterNote s lost p = s
 afterNote s (live m) p =
     record {
-      map = live (noteMap m (s .log) (p .first) (size p) (p .number) (length (s .image)));
-      log = noteLog m (s .log) (p .first) (size p) (p .number) (length (s .image));
+      map = live (noteMap m (s .log) (extentOf p) (length (s .image)));
+      log = noteLog m (s .log) (extentOf p) (length (s .image));
       image = s .image;
     }
 
 unfoldable pub afterWrite : Stripe → Map → Piece → Stripe
 afterWrite s lost p = s
 afterWrite s (live m) p =
-    record { map = live m; log = s .log; image = writeImage m (p .first) (p .bytes) (p .number) (s .image) }
+    record { map = live m; log = s .log; image = writeImage m p (s .image) }
 
 abbrev pub afterRestart : Stripe → List ℕ → Stripe
 afterRestart s buffer =
@@ -102,7 +92,7 @@ scrambled junk log = tab (length log) (λ b. cond (ltb b (runsEnd width log)) (g
 -- "A cut in a write leaves any bytes at the places that this write would store, and none changed elsewhere"
 unfoldable pub torn : Stripe → Map → Piece → (ℕ → ℕ) → List ℕ
 torn s lost p junk = s .image
-torn s (live m) p junk = written (runsOf width m) (p .first) (tab (size p) junk) (p .number) (s .image)
+torn s (live m) p junk = written (runsOf width m) (p .first) (tab (size p) junk) (ageOf p) (s .image)
 
 abbrev pub unplugged : List ℕ → List ℕ → Stripe
 unplugged log image = record { map = lost; log = log; image = image }

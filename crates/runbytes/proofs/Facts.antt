@@ -12,7 +12,8 @@ use Rattle.common.proofs.Rests.{all-get}
 use Rattle.runs.specs.Owner.{run}
 use Rattle.runs.specs.Sound.{maxRuns, maxEntries, valid, allValid, soundMap}
 use Rattle.runs.specs.Bytes.{mapSize, logSize, runsOf, soundMapBytes, soundLogBytes}
-use Rattle.runs.proofs.Valid.{Valid, valid-is}
+use Rattle.runs.specs.Valid.{Valid}
+use Rattle.runs.proofs.Valid.{valid-is}
 use Rattle.runs.proofs.Sound.{sound-is, log-is}
 use Rattle.runbytes.specs.Places.{runAt}
 use Rattle.runbytes.proofs.Places.{runs-length, runs-at}

@@ -9,16 +9,16 @@ use Rattle.common.specs.Counters.{width}
 use Rattle.xdr.specs.Be.{be}
 use Rattle.xdr.specs.Layout.{fields}
 use Rattle.xdr.specs.Tab.{tab}
-use Rattle.xdr.specs.Array.{element, array}
+use Rattle.xdr.specs.Array.{array}
 use Rattle.xdr.proofs.Tabs.{length-tab, getD-tab, map-tab}
 use Rattle.runs.specs.declared.Run.{Run}
 use Rattle.runs.specs.Owner.{run}
-use Rattle.runs.specs.Bytes.{runLayout, runOf, runsOf}
+use Rattle.runs.specs.Bytes.{runLayout, runPlace, runOf, runsOf}
 use Rattle.runbytes.specs.Places.{runAt}
 
 pub runs-tab : (s : List ℕ) → runsOf width s ≡ tab (be 4 s 0) (runAt s)
 unfolding runsOf array runAt
-runs-tab s = map-tab runOf (be 4 s 0) (λ i. fields (runLayout width) s (element (runLayout width) 0 i) 0)
+runs-tab s = map-tab runOf (be 4 s 0) (λ i. fields (runLayout width) s (runPlace width i) 0)
 
 pub runs-length : (s : List ℕ) → length (runsOf width s) ≡ be 4 s 0
 runs-length s = rw (runs-tab s) (length-tab (be 4 s 0) (runAt s))

@@ -1,4 +1,4 @@
--- Valid runs by their greatest last byte and their least number.
+-- Valid runs by their greatest last byte and their least number: a sane age is a number at least 1.
 use Prim.Native.Nat.{ℕ, _≤_, _<_, min, max}
 use mathlib.Core.Path.{_≡_, refl}
 use mathlib.Core.Logic.{⊎-elim}
@@ -10,7 +10,7 @@ use Rattle.common.specs.Ranges.{eof}
 use Rattle.common.proofs.Bools.{and-false}
 use Rattle.common.proofs.Order.{below}
 use Rattle.runs.specs.declared.Run.{Run}
-use Rattle.runs.specs.Owner.{ageOf}
+use Rattle.runs.specs.Ages.{valueOf}
 use Rattle.runs.specs.Sound.{sane, valid}
 
 leb-max : (a b c : ℕ) → leb (max a b) c ≡ (leb a c && leb b c)
@@ -41,9 +41,9 @@ three true false c false y z = refl
 three true true false x y z = and-false (x && y)
 
 -- one run more
-pub tally : (rising : Bool) (last number last′ number′ : ℕ) (r : Run) → last′ ≡ max last (r .last) → number′ ≡ min number (ageOf r)
+pub tally : (rising : Bool) (last number last′ number′ : ℕ) (r : Run) → last′ ≡ max last (r .last) → number′ ≡ min number (r .age .number .0)
     → (((rising && leb (r .first) (r .last)) && leb last′ eof) && ltb 0 number′) ≡ (((rising && leb last eof) && ltb 0 number) && valid r)
-unfolding sane
+unfolding sane valueOf
 tally rising last number last′ number′ r e f =
-    rw (e, f, leb-max last (r .last) eof, leb-min number (ageOf r) 1)
-    (three rising (leb last eof) (ltb 0 number) (leb (r .first) (r .last)) (leb (r .last) eof) (ltb 0 (ageOf r)))
+    rw (e, f, leb-max last (r .last) eof, leb-min number (r .age .number .0) 1)
+    (three rising (leb last eof) (ltb 0 number) (leb (r .first) (r .last)) (leb (r .last) eof) (ltb 0 (r .age .number .0)))

@@ -3,10 +3,9 @@ use Prim.Native.Nat.{ℕ}
 use mathlib.Core.List.{List}
 use Rattle.common.specs.Counters.{width}
 use Rattle.xdr.specs.Layout.{fields}
-use Rattle.xdr.specs.Array.{element}
 use Rattle.runs.specs.declared.Run.{Run}
-use Rattle.runs.specs.Bytes.{runLayout, runOf}
+use Rattle.runs.specs.Bytes.{runLayout, runPlace, runOf}
 
 -- the run at place i
 unfoldable pub runAt : List ℕ → ℕ → Run
-runAt s i = runOf (fields (runLayout width) s (element (runLayout width) 0 i) 0)
+runAt s i = runOf (fields (runLayout width) s (runPlace width i) 0)

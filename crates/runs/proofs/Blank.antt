@@ -1,5 +1,5 @@
 -- Zeros: what they say, and that they are the empty map and the empty log.
-use Prim.Native.Nat.{ℕ, zero, suc, _+_, _*_, _≤_}
+use Prim.Native.Nat.{ℕ, zero, suc, _+_, _≤_}
 use native.Mathlib.Omega.{arith}
 use mathlib.Core.Bool.{true, _&&_}
 use mathlib.Core.List.{List, [], _∷_, map}
@@ -16,7 +16,7 @@ use Rattle.xdr.specs.Tab.{tab}
 use Rattle.xdr.specs.Array.{array}
 use Rattle.runs.specs.declared.Run.{Run}
 use Rattle.runs.specs.Sound.{soundMap, soundLog, apart}
-use Rattle.runs.specs.Bytes.{runLayout, runOf, runsOf, runsEnd, mapSize, logSize, soundMapBytes, soundLogBytes}
+use Rattle.runs.specs.Bytes.{runLayout, runOf, runsOf, runPlace, runsEnd, mapSize, logSize, soundMapBytes, soundLogBytes}
 
 -- zeros from k on
 pub zeros-from : (xs : List ℕ) (k : ℕ) → ((b : ℕ) → k ≤ b → getD xs b 0 ≡ 0) → zeros (drop k xs) ≡ true
@@ -38,7 +38,7 @@ be-blank (suc w) n at = omega (arith, be-blank w n at, blank n (at + w))
 -- bytes with the count 0 say no run, whatever stands after it
 pub none-counted : (s : List ℕ) → be 4 s 0 ≡ 0 → runsOf width s ≡ []
 unfolding runsOf array tab
-none-counted s e = ap (λ (k : ℕ). map runOf (tab k (λ i. fields (runLayout width) s (4 + 20 * i) 0))) e
+none-counted s e = ap (λ (k : ℕ). map runOf (tab k (λ i. fields (runLayout width) s (runPlace width i) 0))) e
 
 pub no-runs : (n : ℕ) → runsOf width (replicate n 0) ≡ []
 no-runs n = none-counted (replicate n 0) (be-blank 4 n 0)

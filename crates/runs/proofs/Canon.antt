@@ -4,6 +4,7 @@ use mathlib.Core.Path.{_≡_, refl}
 use mathlib.Core.List.{List, [], _∷_}
 use native.Mathlib.Omega.{arith}
 use Rattle.runs.specs.declared.Run.{Run}
+use Rattle.runs.specs.Ages.{Exact}
 use Rattle.runs.specs.Owner.{ageOf, owner}
 use Rattle.runs.proofs.Over.{over-in, over-before}
 
@@ -12,6 +13,7 @@ pub record Next (p q : ℕ) (r : Run) : Type 0 where
   pub after : p ≤ r .first
   pub rising : r .first ≤ r .last
   pub some : 0 < ageOf r
+  pub exact : Exact (r .age)
   pub other : r .first ≡ p → ageOf r ≡ q → ⊥
 
 pub data Canon : ℕ → ℕ → List Run → Type 0 where
@@ -25,11 +27,11 @@ pub rest : {p q : ℕ} {r : Run} {rs : List Run} → Canon p q (r ∷ rs) → Ca
 rest (next n c) = c
 
 -- every age is other than 0
-pub opens : (p : ℕ) (r : Run) → p ≤ r .first → r .first ≤ r .last → 0 < ageOf r → Next p 0 r
-opens p r h k l = record { after = h; rising = k; some = l; other = λ _ e. omega arith }
+pub opens : (p : ℕ) (r : Run) → p ≤ r .first → r .first ≤ r .last → 0 < ageOf r → Exact (r .age) → Next p 0 r
+opens p r h k l x = record { after = h; rising = k; some = l; exact = x; other = λ _ e. omega arith }
 
 pub canon-start : {p q : ℕ} {rs : List Run} (p′ : ℕ) (r : Run) → Canon p q (r ∷ rs) → p′ ≤ r .first → Canon p′ 0 (r ∷ rs)
-canon-start p′ r (next n c) h = next (opens p′ r h (n .rising) (n .some)) c
+canon-start p′ r (next n c) h = next (opens p′ r h (n .rising) (n .some) (n .exact)) c
 
 pub canon-from : {p q : ℕ} {rs : List Run} (p′ : ℕ) → Canon p q rs → p′ ≤ p → Canon p′ 0 rs
 canon-from p′ none h = none

@@ -9,7 +9,7 @@ use Rattle.common.proofs.Order.{below, same}
 use Rattle.runs.specs.declared.Run.{Run}
 use Rattle.runs.specs.Owner.{run, over, owner}
 use Rattle.runs.specs.Map.{join, put, draw, end, mapOf, raise}
-use Rattle.runs.proofs.Age.{age-run}
+use Rattle.runs.proofs.Ages.{age-run, exact-age}
 use Rattle.runs.proofs.Over.{over-in, over-after, over-is, owner-end}
 use Rattle.runs.proofs.Canon.{Canon, none, canon-from, canon-before}
 use Rattle.runs.proofs.Join.{join-canon, join-owner}
@@ -20,13 +20,13 @@ by-put P b a rs f g = ⊎-elim (λ (z : a ≡ 0). rw (eq-eqb a 0 z) (f z)) (λ (
 
 module _ (b a : ℕ) (rs : List Run) (c : Canon (suc b) 0 rs) where
   put-canon : Canon b 0 (put b a rs)
-  put-canon = by-put (Canon b 0) b a rs (λ z. canon-from b c (omega arith)) (λ z. join-canon (run b b a) (omega arith) (omega (arith, age-run b b a)) c)
+  put-canon = by-put (Canon b 0) b a rs (λ z. canon-from b c (omega arith)) (λ z. join-canon (run b b a) (omega arith) (omega (arith, age-run b b a)) (exact-age a) c)
 
   put-owner : (x : ℕ) → owner (put b a rs) x ≡ max (over (run b b a) x) (owner rs x)
   put-owner x =
       by-put (λ (l : List Run). owner l x ≡ max (over (run b b a) x) (owner rs x)) b a rs
       (λ z. omega (arith, over-is (λ (o : ℕ). o ≡ 0) (run b b a) x (age-run b b a ∙ z) (omega arith)))
-      (λ z. join-owner (run b b a) (omega arith) (omega (arith, age-run b b a)) x c)
+      (λ z. join-owner (run b b a) (omega arith) (omega (arith, age-run b b a)) (exact-age a) x c)
 
 module _ (g : ℕ → ℕ) where
   pub draw-canon : (b n : ℕ) → Canon b 0 (draw g b n)

@@ -10,6 +10,7 @@ use borrow.Author.Tests.{eq-eqb, ne-eqb}
 use Rattle.common.proofs.Bools.{and-false}
 use Rattle.common.proofs.Order.{same}
 use Rattle.runs.specs.declared.Run.{Run}
+use Rattle.runs.specs.Ages.{Exact}
 use Rattle.runs.specs.Owner.{ageOf, over, owner}
 use Rattle.runs.specs.Map.{joins, from, join}
 use Rattle.runs.proofs.Over.{sides, over-before, over-in, over-after, over-from}
@@ -45,15 +46,15 @@ join-apart r none = refl
 join-apart r (next {r = t} {rs = ts} n c) =
     by-join (λ (l : List Run). l ≡ r ∷ t ∷ ts) r t ts (λ u v. absurd (n .other (omega arith) (sym v))) (λ _. refl)
 
-module _ (r : Run) (up : r .first ≤ r .last) (some : 0 < ageOf r) where
+module _ (r : Run) (up : r .first ≤ r .last) (some : 0 < ageOf r) (exact : Exact (r .age)) where
   pub join-canon : {q : ℕ} {ts : List Run} → Canon (suc (r .last)) q ts → Canon (r .first) 0 (join r ts)
   unfolding join
-  join-canon none = next (opens (r .first) r (omega arith) up some) none
+  join-canon none = next (opens (r .first) r (omega arith) up some exact) none
   join-canon (next {r = t} {rs = ts} n c) =
       by-join (Canon (r .first) 0) r t ts
-      (λ u v. next (opens (r .first) (from (r .first) t) (omega arith) (omega arith) (n .some)) c)
-      (λ d. next (opens (r .first) r (omega arith) up some)
-      (next (record { after = n .after; rising = n .rising; some = n .some; other = λ u v. d (omega arith) (sym v) }) c))
+      (λ u v. next (opens (r .first) (from (r .first) t) (omega arith) (omega arith) (n .some) (n .exact)) c)
+      (λ d. next (opens (r .first) r (omega arith) up some exact)
+      (next (record { after = n .after; rising = n .rising; some = n .some; exact = n .exact; other = λ u v. d (omega arith) (sym v) }) c))
 
   pub join-owner : {q : ℕ} {ts : List Run} (b : ℕ) → Canon (suc (r .last)) q ts → owner (join r ts) b ≡ max (over r b) (owner ts b)
   unfolding join owner

@@ -1,4 +1,4 @@
-pub mod Age
+pub mod Ages
 pub mod Over
 pub mod Canon
 pub mod Join

@@ -1,5 +1,5 @@
 -- The bytes of a log with one entry more say one entry more, and the bytes past a log's entries say nothing.
-use Prim.Native.Nat.{ℕ, suc, _+_, _*_, _≤_, _<_}
+use Prim.Native.Nat.{ℕ, suc, _+_, _≤_, _<_}
 use native.Mathlib.Omega.{arith}
 use native.Mathlib.Numerals.{add-one}
 use mathlib.Core.Bool.{true, _&&_}
@@ -20,8 +20,9 @@ use Rattle.xdr.proofs.Tabs.{tab-ext, tab-snoc, length-tab}
 use Rattle.xdr.proofs.Arrays.{fields-put-count, array-ext}
 use Rattle.runs.specs.declared.Run.{Run}
 use Rattle.runs.specs.Sound.{maxEntries, soundLog}
-use Rattle.runs.specs.Bytes.{runLayout, runOf, runFields, runsOf, logSize, runsEnd, soundLogBytes, appended}
-use Rattle.runs.proofs.Valid.{Valid, valid-snoc}
+use Rattle.runs.specs.Valid.{Valid}
+use Rattle.runs.specs.Bytes.{runLayout, runOf, runFields, runsOf, logSize, runPlace, runsEnd, soundLogBytes, appended}
+use Rattle.runs.proofs.Valid.{valid-snoc}
 use Rattle.runs.proofs.Sound.{SoundLog, log-is, is-log}
 
 -- What a sound log's bytes have
@@ -43,7 +44,7 @@ bytes-log log b = rw (eq-eqb (length log) (logSize width) (b .long), b .sound)
 
 -- the fields of entry i; how many entries there are
 abbrev entry : List ℕ → ℕ → List ℕ
-entry log i = fields (runLayout width) log (4 + 20 * i) 0
+entry log i = fields (runLayout width) log (runPlace width i) 0
 
 pub entries : (log : List ℕ) → length (runsOf width log) ≡ be 4 log 0
 unfolding runsOf array
@@ -67,7 +68,7 @@ module _ (log : List ℕ) (r : Run) (l : LogBytes log) (room : length (runsOf wi
 
   -- the entry is put down, and then the count
   put : List ℕ
-  put = putFields (runLayout width) log (4 + 20 * n) 0 (runFields r)
+  put = putFields (runLayout width) log (runPlace width n) 0 (runFields r)
 
   appended-is : appended width log r ≡ putBe 4 put 0 (n + 1)
   unfolding appended put n
@@ -83,13 +84,13 @@ module _ (log : List ℕ) (r : Run) (l : LogBytes log) (room : length (runsOf wi
 
   older : (i : ℕ) → i < n → entry (appended width log r) i ≡ entry log i
   unfolding n
-  older i h = fields-ext (runLayout width) _ log (4 + 20 * i) (4 + 20 * i) 0 (λ j p. log-other log r (4 + 20 * i + (0 + j)) (omega arith) (λ k q e. omega arith))
+  older i h = fields-ext (runLayout width) _ log (runPlace width i) (runPlace width i) 0 (λ j p. log-other log r (runPlace width i + (0 + j)) (omega arith) (λ k q e. omega arith))
 
   newer : entry (appended width log r) n ≡ runFields r
   unfolding put
   newer =
       rw appended-is (fields-put-count (runLayout width) put 0 (n + 1) n)
-      ∙ fields-put (runLayout width) log (4 + 20 * n) 0 (runFields r) (let z = few in let y = l .long in omega arith) fit
+      ∙ fields-put (runLayout width) log (runPlace width n) 0 (runFields r) (let z = few in let y = l .long in omega arith) fit
 
   pub log-back : runsOf width (appended width log r) ≡ runsOf width log ++ (r ∷ [])
   unfolding runsOf array n

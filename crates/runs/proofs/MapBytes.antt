@@ -1,4 +1,4 @@
--- The bytes of a sound map of small numbers are a sound map's bytes, and say it.
+-- The bytes of a sound map whose ages fit are a sound map's bytes, and say it.
 use Prim.Native.Nat.{ℕ, zero, suc, _+_, _*_, _^_, _≤_, _<_}
 use native.Mathlib.Omega.{arith}
 use mathlib.Core.Bool.{true, _&&_}
@@ -7,7 +7,7 @@ use mathlib.Core.Path.{_≡_, refl, sym, ap, _∙_}
 use lib.Dec.{eqb}
 use lib.ListN.{length, getD, drop, replicate, length-replicate, length-map}
 use borrow.Author.Tests.{eq-eqb}
-use Rattle.common.specs.Counters.{width, highest}
+use Rattle.common.specs.Counters.{width}
 use Rattle.common.specs.Tests.{zeros}
 use Rattle.common.proofs.Bools.{and-left, and-right}
 use Rattle.xdr.specs.Be.{Bytes, be}
@@ -20,19 +20,21 @@ use Rattle.xdr.proofs.Arrays.{array-put, put-array-length, put-array-other}
 use Rattle.runs.specs.declared.Run.{Run}
 use Rattle.runs.specs.Owner.{ageOf, owner}
 use Rattle.runs.specs.Sound.{allValid, soundMap}
-use Rattle.runs.specs.Bytes.{runLayout, runOf, runFields, runsOf, mapSize, runsEnd, soundMapBytes, bytesOf, mapBytes}
+use Rattle.runs.specs.Valid.{Valid}
+use Rattle.runs.specs.Bytes.{runLayout, runOf, runFields, runsOf, mapSize, runPlace, runsEnd, soundMapBytes, bytesOf, mapBytes}
+use Rattle.runs.proofs.Ages.{highestAge, age-fits, fits-age}
 use Rattle.runs.proofs.Blank.{zeros-from, blank}
 use Rattle.runs.proofs.Over.{over-is}
 use Rattle.runs.proofs.Canon.{Canon, none, next, canon-head}
-use Rattle.runs.proofs.Valid.{Valid, valid-head, valid-rest}
+use Rattle.runs.proofs.Valid.{valid-head, valid-rest}
 use Rattle.runs.proofs.Sound.{sound-is, sound-canon}
 
--- A run whose range is valid and whose number is not above the highest fits its fields
-pub run-fits : (r : Run) → Valid r → ageOf r ≤ highest width → Fit (runLayout width) (runFields r)
-run-fits r v h = (omega arith, (omega arith, (omega arith, tt)))
+-- A valid run fits its fields if its age does
+pub run-fits : (r : Run) → Valid r → ageOf r ≤ highestAge → Fit (runLayout width) (runFields r)
+run-fits r v h = let a = age-fits (r .age) h in (omega arith, (omega arith, (omega arith, tt)))
 
 -- Of canonical runs each has the age of its first byte
-runs-fit : {p q : ℕ} {rs : List Run} → Canon p q rs → allValid rs ≡ true → ((b : ℕ) → owner rs b ≤ highest width) → Fits (runLayout width) (map runFields rs)
+runs-fit : {p q : ℕ} {rs : List Run} → Canon p q rs → allValid rs ≡ true → ((b : ℕ) → owner rs b ≤ highestAge) → Fits (runLayout width) (map runFields rs)
 unfolding owner
 runs-fit none v h = tt
 runs-fit (next {r = r} {rs = rs} n c) v h =
@@ -60,15 +62,15 @@ module _ (n : ℕ) (rs : List Run) (fit : Fits (runLayout width) (map runFields 
 
   count : be 4 (bytesOf width n rs) 0 ≡ length rs
   unfolding array
-  count = sym (length-tab (be 4 (bytesOf width n rs) 0) (λ i. fields (runLayout width) (bytesOf width n rs) (4 + 20 * i) 0)) ∙ ap length said ∙ length-map rs runFields
+  count = sym (length-tab (be 4 (bytesOf width n rs) 0) (λ i. fields (runLayout width) (bytesOf width n rs) (runPlace width i) 0)) ∙ ap length said ∙ length-map rs runFields
 
   pub bytes-tail : zeros (drop (runsEnd width (bytesOf width n rs)) (bytesOf width n rs)) ≡ true
   bytes-tail =
       zeros-from (bytesOf width n rs) (runsEnd width (bytesOf width n rs))
       (λ b l. put-array-other (runLayout width) (replicate n 0) 0 (map runFields rs) b (λ j p e. let c = count in let q = length-map rs runFields in omega arith) ∙ blank n b)
 
--- The bytes of a sound map of small numbers are a sound map's, and say it
-module _ (rs : List Run) (s : soundMap rs ≡ true) (h : (b : ℕ) → owner rs b ≤ highest width) where
+-- The bytes of a sound map are a sound map's, and say it
+module _ (rs : List Run) (s : soundMap rs ≡ true) (h : (b : ℕ) → owner rs b ≤ highestAge) where
   fit : Fits (runLayout width) (map runFields rs)
   fit = runs-fit (sound-canon rs s) (sound-is rs s .good) h
 
@@ -95,15 +97,15 @@ map-runs m e =
     let h = and-right (eqb (length m) (mapSize width)) (soundMap (runsOf width m) && zeros (drop (runsEnd width m) m)) e in
     and-left (soundMap (runsOf width m)) (zeros (drop (runsEnd width m) m)) h
 
--- Bytes say numbers of 4 bytes, so none is above the highest
-owner-tab : (n : ℕ) (f : ℕ → List ℕ) → ((i : ℕ) → getD (f i) 2 0 ≤ highest width) → (b : ℕ) → owner (map runOf (tab n f)) b ≤ highest width
+-- Bytes say ages whose fields fit, so none is above the highest
+owner-tab : (n : ℕ) (f : ℕ → List ℕ) → ((i : ℕ) → ageOf (runOf (f i)) ≤ highestAge) → (b : ℕ) → owner (map runOf (tab n f)) b ≤ highestAge
 unfolding owner tab
 owner-tab zero f h b = omega arith
 owner-tab (suc n) f h b =
-    let o = over-is (λ (k : ℕ). k ≤ highest width) (runOf (f 0)) b (h 0) (omega arith) in
+    let o = over-is (λ (k : ℕ). k ≤ highestAge) (runOf (f 0)) b (h 0) (omega arith) in
     omega (arith, owner-tab n (λ i. f (suc i)) (λ i. h (suc i)) b)
 
-pub owner-small : (s : List ℕ) → Bytes s → (b : ℕ) → owner (runsOf width s) b ≤ highest width
+pub owner-small : (s : List ℕ) → Bytes s → (b : ℕ) → owner (runsOf width s) b ≤ highestAge
 unfolding runsOf array fields
 owner-small s h b =
-    owner-tab (be 4 s 0) (λ i. fields (runLayout width) s (4 + 20 * i) 0) (λ i. let l = be-lt 4 s (4 + 20 * i + (0 + 8 + 8)) h in omega arith) b
+    owner-tab (be 4 s 0) (λ i. fields (runLayout width) s (runPlace width i) 0) (λ i. fits-age _ (let l = be-lt width s (runPlace width i + (0 + 8 + 8)) h in omega arith)) b

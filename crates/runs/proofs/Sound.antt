@@ -11,13 +11,14 @@ use Rattle.common.proofs.Bools.{never, and-left, and-right, and-both}
 use Rattle.runs.specs.declared.Run.{Run}
 use Rattle.runs.specs.Owner.{ageOf, owner}
 use Rattle.runs.specs.Map.{mapOf}
+use Rattle.runs.specs.Valid.{Valid}
 use Rattle.runs.specs.Sound.{maxRuns, maxEntries, allValid, leads, apart, soundMap, soundLog}
-use Rattle.runs.proofs.Age.{sane-pos}
+use Rattle.runs.proofs.Ages.{sane-exact, sane-pos}
 use Rattle.runs.proofs.Canon.{Next, Canon, none, next, opens}
 use Rattle.runs.proofs.Join.{Joins, one, two, joined}
 use Rattle.runs.proofs.Draw.{map-canon}
 use Rattle.runs.proofs.Unique.{canon-unique}
-use Rattle.runs.proofs.Valid.{Valid, valid-head, valid-rest, map-valid}
+use Rattle.runs.proofs.Valid.{valid-head, valid-rest, map-valid}
 
 pub record SoundMap (rs : List Run) : Type 0 where
   pub few : length rs ≤ maxRuns
@@ -54,7 +55,8 @@ leads-next r t e v = go (joined r t) e
         record {
           after = ltb-true (r .last) (t .first) (and-left (ltb (r .last) (t .first)) true x);
           rising = v .rising;
-          some = sane-pos (ageOf t) (v .some);
+          some = sane-pos (t .age) (v .some);
+          exact = sane-exact (t .age) (v .some);
           other = λ u w. d (omega arith) (sym w);
         }
 
@@ -83,7 +85,7 @@ sound-canon [] e = none
 sound-canon (r ∷ rs) e =
     let s = sound-is (r ∷ rs) e in
     let v = valid-head r rs (s .good) in
-    apart-canon r rs (opens 0 r (omega arith) (v .rising) (sane-pos (ageOf r) (v .some))) (valid-rest r rs (s .good)) (s .apart)
+    apart-canon r rs (opens 0 r (omega arith) (v .rising) (sane-pos (r .age) (v .some)) (sane-exact (r .age) (v .some))) (valid-rest r rs (s .good)) (s .apart)
 
 pub sound-unique : (rs ts : List Run) → soundMap rs ≡ true → soundMap ts ≡ true → ((b : ℕ) → owner rs b ≡ owner ts b) → rs ≡ ts
 sound-unique rs ts c d e = canon-unique rs ts (sound-canon rs c) (sound-canon ts d) e

@@ -12,6 +12,7 @@ use Rattle.common.proofs.Order.{same}
 use Rattle.runs.specs.declared.Run.{Run}
 use Rattle.runs.specs.Owner.{run, owner}
 use Rattle.runs.specs.Map.{joins, from, join, put, draw, mapOf}
+use Rattle.runs.proofs.Ages.{age-run}
 use Rattle.runs.proofs.Canon.{Next, Canon, none, next, canon-head}
 use Rattle.runs.proofs.Join.{by-join, join-apart}
 use Rattle.runs.proofs.Draw.{by-put, draw-canon, draw-owner, map-canon, map-owner}
@@ -28,7 +29,7 @@ put-append b a xs ys c = go (eqb a 0) xs
 
     go : (z : Bool) (xs : List Run) → cond z (xs ++ ys) (join (run b b a) (xs ++ ys)) ≡ cond z xs (join (run b b a) xs) ++ ys
     go true xs = refl
-    go false [] = join-apart (run b b a) c
+    go false [] = join-apart (run b b a) (rw (age-run b b a) c)
     go false (x ∷ xs) = pick (joins (run b b a) x) x xs
 
 module _ (g : ℕ → ℕ) where
@@ -46,6 +47,7 @@ module _ (g : ℕ → ℕ) where
             after = omega arith;
             rising = w .rising;
             some = w .some;
+            exact = w .exact;
             other = λ u v. t (omega arith) (sym v ∙ sym (canon-head e (next w c) (omega arith) (omega arith)) ∙ o);
           } in
           next n c

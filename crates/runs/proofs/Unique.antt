@@ -8,7 +8,7 @@ use Rattle.common.proofs.Order.{below}
 use Rattle.runs.specs.declared.Run.{Run}
 use Rattle.runs.specs.Owner.{ageOf, run, owner}
 use Rattle.runs.specs.Map.{from, join, draw, end, mapOf, raise}
-use Rattle.runs.proofs.Age.{age-run, same-run}
+use Rattle.runs.proofs.Ages.{age-run, exact-age, same-run}
 use Rattle.runs.proofs.Over.{over-from, owner-after, owner-snoc}
 use Rattle.runs.proofs.Canon.{Canon, none, next, head, rest, opens, canon-start, canon-from, canon-before, canon-head}
 use Rattle.runs.proofs.Join.{by-join, join-apart}
@@ -46,7 +46,7 @@ module _ (g : ℕ → ℕ) (b n : ℕ) (ih : (rs : List Run) → Says g (suc b) 
         let w = head (s .canon) in
         inside (from (suc b) r ∷ rs)
         (record {
-          canon = next (opens (suc b) (from (suc b) r) (omega arith) h (w .some)) (rest (s .canon));
+          canon = next (opens (suc b) (from (suc b) r) (omega arith) h (w .some) (w .exact)) (rest (s .canon));
           ends = omega (arith, s .ends);
           says = λ x k. omega (arith, over-from r (suc b) x k (omega arith), s .says x (omega arith));
         })
@@ -63,7 +63,7 @@ module _ (g : ℕ → ℕ) (b n : ℕ) (ih : (rs : List Run) → Says g (suc b) 
           ends = omega (arith, s .ends);
           says = λ x k. sym (owner-after r rs x (omega arith)) ∙ s .says x (omega arith);
         })
-        (rw (← same-run r (run b b (g b)) at e (sym age)) (join-apart r (rest (s .canon))))
+        (rw (← same-run r (run b b (g b)) (w .exact) (exact-age (g b)) at e (sym age)) (join-apart r (rest (s .canon))))
 
 drawn : (g : ℕ → ℕ) (b n : ℕ) (rs : List Run) → Says g b n rs → draw g b n ≡ rs
 unfolding draw end

@@ -10,18 +10,15 @@ use Rattle.common.specs.Ranges.{eof}
 use Rattle.common.proofs.Bools.{and-left, and-right, and-both}
 use Rattle.common.proofs.Order.{below}
 use Rattle.runs.specs.declared.Run.{Run}
+use Rattle.runs.specs.Ages.{age, Exact}
 use Rattle.runs.specs.Owner.{ageOf, run, over, owner}
 use Rattle.runs.specs.Map.{from, join, draw, end, mapOf}
 use Rattle.runs.specs.Sound.{sane, valid, allValid}
-use Rattle.runs.proofs.Age.{age-run}
+use Rattle.runs.specs.Valid.{Valid}
+use Rattle.runs.proofs.Ages.{sane-exact}
 use Rattle.runs.proofs.Over.{over-is, owner-end}
 use Rattle.runs.proofs.Join.{by-join}
 use Rattle.runs.proofs.Draw.{by-put}
-
-pub record Valid (r : Run) : Type 0 where
-  pub rising : r .first ≤ r .last
-  pub short : r .last ≤ eof
-  pub some : sane (ageOf r) ≡ true
 
 pub valid-is : (r : Run) → valid r ≡ true → Valid r
 valid-is r e = search (and-left, and-right, leb-true)
@@ -44,7 +41,7 @@ valid-snoc (t ∷ es) r e v = valid-cons t (es ++ r ∷ []) (valid-head t es e) 
 
 -- the ages of valid entries
 abbrev Sane : ℕ → Type 0
-Sane a = (a ≡ 0) ⊎ (sane a ≡ true)
+Sane a = (a ≡ 0) ⊎ (sane (age a) ≡ true)
 
 greater : (a b : ℕ) → Sane a → Sane b → Sane (max a b)
 greater a b x y =
@@ -53,10 +50,14 @@ greater a b x y =
     (λ (u : b ≤ a). let e : max a b ≡ a = omega arith in rw e x)
     (below a b)
 
-pub owner-sane : (es : List Run) (b : ℕ) → allValid es ≡ true → (owner es b ≡ 0) ⊎ (sane (owner es b) ≡ true)
+entry-sane : (r : Run) → sane (r .age) ≡ true → Sane (ageOf r)
+unfolding Exact
+entry-sane r e = inr (ap sane (sane-exact (r .age) e) ∙ e)
+
+owner-sane : (es : List Run) (b : ℕ) → allValid es ≡ true → Sane (owner es b)
 unfolding owner
 owner-sane [] b e = inl refl
-owner-sane (r ∷ es) b e = greater (over r b) (owner es b) (over-is Sane r b (inr (valid-head r es e .some)) (inl refl)) (owner-sane es b (valid-rest r es e))
+owner-sane (r ∷ es) b e = greater (over r b) (owner es b) (over-is Sane r b (entry-sane r (valid-head r es e .some)) (inl refl)) (owner-sane es b (valid-rest r es e))
 
 end-valid : (es : List Run) → allValid es ≡ true → end es ≤ suc eof
 unfolding end
@@ -83,7 +84,7 @@ draw-valid g b (suc n) s h =
     let ds : List Run = draw g (suc b) n in
     let ih : allValid ds ≡ true = draw-valid g (suc b) n s (omega arith) in
     by-put (λ (l : List Run). allValid l ≡ true) b (g b) ds (λ _. ih)
-    (λ z. join-valid (run b b (g b)) ds (record { rising = omega arith; short = omega arith; some = ⊎-elim (λ e. absurd (z e)) (λ e. ap sane (age-run b b (g b)) ∙ e) (s b) }) ih)
+    (λ z. join-valid (run b b (g b)) ds (record { rising = omega arith; short = omega arith; some = ⊎-elim (λ e. absurd (z e)) (λ e. e) (s b) }) ih)
 
 pub map-valid : (es : List Run) → allValid es ≡ true → allValid (mapOf es) ≡ true
 unfolding mapOf

@@ -5,13 +5,12 @@ use mathlib.Core.Bool.{Bool, _&&_}
 use mathlib.Core.List.{List, [], _∷_, map}
 use lib.Dec.{eqb}
 use lib.ListN.{length, getD, drop, replicate}
-use Rattle.common.specs.Counters.{width}
+use Rattle.common.specs.Counters.{width, number}
 use Rattle.common.specs.Tests.{zeros}
 use Rattle.xdr.specs.Be.{be, putBe}
 use Rattle.xdr.specs.Layout.{putFields, size}
 use Rattle.xdr.specs.Array.{array, putArray, arraySize, element}
 use Rattle.runs.specs.declared.Run.{Run}
-use Rattle.runs.specs.Owner.{run}
 use Rattle.runs.specs.Sound.{maxRuns, maxEntries, soundMap, soundLog}
 
 -- "runs (first, last, number: 20 bytes)"; "entries shaped as runs"
@@ -19,10 +18,10 @@ abbrev pub runLayout : ℕ → List ℕ
 runLayout w = 8 ∷ 8 ∷ w ∷ []
 
 abbrev pub runOf : List ℕ → Run
-runOf fs = run (getD fs 0 0) (getD fs 1 0) (getD fs 2 0)
+runOf fs = record { first = getD fs 0 0; last = getD fs 1 0; age = record { number = number (getD fs 2 0) } }
 
 abbrev pub runFields : Run → List ℕ
-runFields r = r .first ∷ r .last ∷ r .number .0 ∷ []
+runFields r = r .first ∷ r .last ∷ r .age .number .0 ∷ []
 
 unfoldable pub runsOf : ℕ → List ℕ → List Run
 runsOf w s = map runOf (array (runLayout w) s 0)
@@ -34,8 +33,12 @@ mapSize w = arraySize maxRuns (runLayout w)
 abbrev pub logSize : ℕ → ℕ
 logSize w = arraySize maxEntries (runLayout w)
 
+-- Where the run at place i starts, and where the runs end
+abbrev pub runPlace : ℕ → ℕ → ℕ
+runPlace w i = element (runLayout w) 0 i
+
 abbrev pub runsEnd : ℕ → List ℕ → ℕ
-runsEnd w s = element (runLayout w) 0 (be 4 s 0)
+runsEnd w s = runPlace w (be 4 s 0)
 
 -- What refusal 12 asks of a map: its length, every rule, and "zero bytes after"
 unfoldable pub soundMapBytes : List ℕ → Bool

@@ -13,7 +13,7 @@ joins r t = eqb (r .last + 1) (t .first) && eqb (ageOf r) (ageOf t)
 
 -- The run with b as its first byte
 abbrev pub from : ℕ → Run → Run
-from b r = record { first = b; last = r .last; number = r .number }
+from b r = record { first = b; last = r .last; age = r .age }
 
 -- A run in front of runs that start after it: one run with the first of them, if they join
 unfoldable pub join : Run → List Run → List Run
@@ -22,12 +22,12 @@ join r (t ∷ ts) = cond (joins r t) (from (r .first) t ∷ ts) (r ∷ t ∷ ts)
 
 -- The byte b at an age, in front of runs that start after it. "A byte in no run has number 0"
 unfoldable pub put : ℕ → ℕ → List Run → List Run
-put b age rs = cond (eqb age 0) rs (join (run b b age) rs)
+put b a rs = cond (eqb a 0) rs (join (run b b a) rs)
 
 -- The n bytes from b on, each at the age that is given for it
 unfoldable pub draw : (ℕ → ℕ) → ℕ → ℕ → List Run
-draw age b zero = []
-draw age b (suc n) = put b (age b) (draw age (suc b) n)
+draw ages b zero = []
+draw ages b (suc n) = put b (ages b) (draw ages (suc b) n)
 
 -- The byte after the last byte of all entries
 unfoldable pub end : List Run → ℕ

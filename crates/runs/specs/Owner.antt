@@ -3,16 +3,16 @@ use Prim.Native.Nat.{ℕ, max}
 use mathlib.Core.Bool.{cond}
 use mathlib.Core.List.{List, [], _∷_}
 use Rattle.common.specs.Ranges.{within}
-use Rattle.common.specs.Counters.{number}
 use Rattle.runs.specs.declared.Run.{Run}
+use Rattle.runs.specs.Ages.{valueOf, age}
 
--- By what runs and pieces are judged
+-- By what a run is judged
 abbrev pub ageOf : Run → ℕ
-ageOf r = r .number .0
+ageOf r = valueOf (r .age)
 
 -- The bytes first to last at an age
 abbrev pub run : ℕ → ℕ → ℕ → Run
-run first last age = record { first = first; last = last; number = number age }
+run first last a = record { first = first; last = last; age = age a }
 
 -- The age that a run gives a byte: 0 outside
 unfoldable pub over : Run → ℕ → ℕ

@@ -6,8 +6,9 @@ use lib.Dec.{ltb, leb}
 use lib.ListN.{length}
 use Rattle.common.specs.Ranges.{range}
 use Rattle.common.specs.Tests.{all}
+use Rattle.runs.specs.declared.Age.{Age}
 use Rattle.runs.specs.declared.Run.{Run}
-use Rattle.runs.specs.Owner.{ageOf}
+use Rattle.runs.specs.Ages.{valueOf}
 use Rattle.runs.specs.Map.{joins}
 
 -- "the array of at most 1,024 runs"; "the array of at most 2,048 entries"
@@ -18,12 +19,12 @@ abbrev pub maxEntries : ℕ
 maxEntries = 2048
 
 -- "number at least 1"
-unfoldable pub sane : ℕ → Bool
-sane age = ltb 0 age
+unfoldable pub sane : Age → Bool
+sane a = ltb 0 (valueOf a)
 
 -- "each a valid range with number at least 1"
 abbrev pub valid : Run → Bool
-valid r = range (r .first) (r .last) && sane (ageOf r)
+valid r = range (r .first) (r .last) && sane (r .age)
 
 abbrev pub allValid : List Run → Bool
 allValid = all valid

@@ -1,9 +1,59 @@
-// Runs: what the map and the log say of each byte.
+// Runs and their ages: what the map and the log say of each byte.
 use common::Number;
+ghost use mathlib.Core.Path.{_≡_};
+ghost use Prim.Native.Nat.{max};
+ghost use lib.Dec.{eqb, ltb};
+ghost use Rattle.runs.specs.Ages.{valueOf, age, Exact};
 
-// The bytes first to last, both included, under one number: a run of the map, an entry of the log, the place of a piece.
+// By what runs and pieces are judged: the number of their grant.
+pub struct Age {
+    pub number: Number,
+}
+
+// The bytes first to last, both included, at one age: a run of the map, an entry of the log, the place of a piece.
 pub struct Run {
     pub first: u64,
     pub last: u64,
-    pub number: Number,
+    pub age: Age,
+}
+
+// Makes the age of a byte that is in no run.
+pub fn none() -> Age
+    ensures { λ r. ⌜ r ≡ age 0 ⌝ }
+{
+    Age { number: Number(0) }
+}
+
+// Tests whether an age is that of a byte in no run.
+pub fn is_none(a: Age) -> bool
+    ensures { λ r. ⌜ r ≡ eqb (valueOf a) 0 ⌝ }
+{
+    a.number.0 == 0
+}
+
+// Tests whether two ages are one.
+pub fn same(a: Age, b: Age) -> bool
+    requires { ⌜ Exact a × Exact b ⌝ }
+    ensures { λ r. ⌜ r ≡ eqb (valueOf a) (valueOf b) ⌝ }
+{
+    a.number.0 == b.number.0
+}
+
+// Tests whether the first age is the older one.
+pub fn older(a: Age, b: Age) -> bool
+    requires { ⌜ Exact a × Exact b ⌝ }
+    ensures { λ r. ⌜ r ≡ ltb (valueOf a) (valueOf b) ⌝ }
+{
+    a.number.0 < b.number.0
+}
+
+// Takes the later of two ages.
+pub fn later(a: Age, b: Age) -> Age
+    requires { ⌜ Exact a × Exact b ⌝ }
+    ensures { λ r. ⌜ r ≡ age (max (valueOf a) (valueOf b)) ⌝ }
+{
+    if older(a, b) {
+        return b;
+    }
+    a
 }

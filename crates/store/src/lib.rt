@@ -1,5 +1,5 @@
-// Storing a piece where the map has its number, and the test before it.
-use common::Number;
+// Storing a piece where the map has its age, and the test before it.
+use runs::Age;
 use runs::Run;
 ghost use mathlib.Core.Path.{_≡_};
 ghost use mathlib.Core.Bool.{true};
@@ -7,11 +7,12 @@ ghost use mathlib.Core.List.{[], _∷_};
 ghost use Prim.Native.Nat.{_+_, _-_, _^_, _≤_, _<_, min};
 ghost use lib.ListN.{length};
 ghost use Rattle.common.specs.Counters.{width};
-ghost use Rattle.common.specs.Ranges.{eof};
+ghost use Rattle.runs.specs.Ages.{valueOf, Exact};
+ghost use Rattle.runs.specs.Valid.{Valid};
 ghost use Rattle.runs.specs.Bytes.{runsOf, soundMapBytes};
 ghost use Rattle.stripe.specs.Refusals.{behind};
 ghost use Rattle.stripe.specs.Stripe.{stored};
-ghost use Rattle.store.specs.Past.{past};
+ghost use Rattle.store.specs.Onward.{onward};
 
 // How many bytes of a long stretch go at once.
 const BLOCK: usize = 16384;
@@ -62,22 +63,22 @@ fn spot(b: u64, first: u64, len: usize) -> usize
     at
 }
 
-// Stores what one run lets through: the piece's bytes in the run, if it has the piece's number.
-fn store_run(part: &mut [u8], piece: &[u8], first: u64, r: Run, number: Number)
-    requires { ⌜ (length (now part) ≡ length (now piece)) × (0 < number .0) × (r .first ≤ r .last) × (r .last ≤ eof) ⌝ }
-    ensures { λ _. ⌜ now (part .exit) ≡ stored (r ∷ []) (number .0) first (now (piece .entry)) (now (part .entry)) ⌝ }
+// Stores what one run lets through: the piece's bytes in the run, if it has the piece's age.
+fn store_run(part: &mut [u8], piece: &[u8], first: u64, r: Run, age: Age)
+    requires { ⌜ (length (now part) ≡ length (now piece)) × (0 < valueOf age) × Exact age × Valid r ⌝ }
+    ensures { λ _. ⌜ now (part .exit) ≡ stored (r ∷ []) (valueOf age) first (now (piece .entry)) (now (part .entry)) ⌝ }
 {
-    if r.number.0 == number.0 {
+    if runs::same(r.age, age) {
         let from = spot(r.first, first, piece.len());
         let to = spot(r.last + 1, first, piece.len());
         copy(&mut part[from..to], &piece[from..to]);
     }
 }
 
-// Finds the byte to ask about after b: the one past the run, if the run is over b at the number or above it.
-fn pass(r: Run, number: Number, b: u64) -> u64
-    requires { ⌜ r .last ≤ eof ⌝ }
-    ensures { λ y. ⌜ y ≡ past r (number .0) b ⌝ }
+// Finds the byte to ask about after b: the one past the run, if the run is over b and not older.
+fn onward(r: Run, age: Age, b: u64) -> u64
+    requires { ⌜ Exact age × Valid r ⌝ }
+    ensures { λ y. ⌜ y ≡ onward r (valueOf age) b ⌝ }
 {
     if b < r.first {
         return b;
@@ -85,36 +86,36 @@ fn pass(r: Run, number: Number, b: u64) -> u64
     if r.last < b {
         return b;
     }
-    if r.number.0 < number.0 {
+    if runs::older(r.age, age) {
         return b;
     }
     r.last + 1
 }
 
-// Tests whether some byte of the `len` from `first` on has a smaller number in the map.
-pub fn is_behind(map: &[u8], first: u64, len: u64, number: Number) -> bool
-    requires { ⌜ (soundMapBytes (now map) ≡ true) × (0 < number .0) × (first + len < 2 ^ 64) ⌝ }
-    ensures { λ r. ⌜ r ≡ behind (runsOf width (now (map .entry))) (number .0) first len ⌝ }
+// Tests whether some byte of the `len` from `first` on has a smaller age in the map.
+pub fn is_behind(map: &[u8], first: u64, len: u64, age: Age) -> bool
+    requires { ⌜ (soundMapBytes (now map) ≡ true) × (0 < valueOf age) × Exact age × (first + len < 2 ^ 64) ⌝ }
+    ensures { λ r. ⌜ r ≡ behind (runsOf width (now (map .entry))) (valueOf age) first len ⌝ }
 {
     let n = runbytes::count(map);
     let mut b = first;
     let mut i: usize = 0;
     while i < n {
-        b = pass(runbytes::run_at(map, i), number, b);
+        b = onward(runbytes::run_at(map, i), age, b);
         i += 1;
     }
     b < first + len
 }
 
-// Stores the piece in the part of the image that is its own, where the map has its number.
-pub fn store(part: &mut [u8], piece: &[u8], map: &[u8], first: u64, number: Number)
-    requires { ⌜ (soundMapBytes (now map) ≡ true) × (0 < number .0) × (length (now part) ≡ length (now piece)) ⌝ }
-    ensures { λ _. ⌜ now (part .exit) ≡ stored (runsOf width (now (map .entry))) (number .0) first (now (piece .entry)) (now (part .entry)) ⌝ }
+// Stores the piece in the part of the image that is its own, where the map has its age.
+pub fn store(part: &mut [u8], piece: &[u8], map: &[u8], first: u64, age: Age)
+    requires { ⌜ (soundMapBytes (now map) ≡ true) × (0 < valueOf age) × Exact age × (length (now part) ≡ length (now piece)) ⌝ }
+    ensures { λ _. ⌜ now (part .exit) ≡ stored (runsOf width (now (map .entry))) (valueOf age) first (now (piece .entry)) (now (part .entry)) ⌝ }
 {
     let n = runbytes::count(map);
     let mut i: usize = 0;
     while i < n {
-        store_run(part, piece, first, runbytes::run_at(map, i), number);
+        store_run(part, piece, first, runbytes::run_at(map, i), age);
         i += 1;
     }
 }

@@ -11,7 +11,8 @@ use Rattle.runs.specs.Sound.{apart, soundMap, soundLog}
 use Rattle.runs.proofs.Unique.{map-snoc}
 use Rattle.runs.proofs.Valid.{valid-cons, valid-snoc}
 use Rattle.runs.proofs.Sound.{sound-is, log-is, is-log, map-sound}
-use Rattle.stripe.specs.Refusals.{place}
+use Rattle.stripe.specs.declared.Extent.{Extent}
+use Rattle.stripe.specs.Piece.{place, Piece}
 use Rattle.stripe.specs.Stripe.{Stripe, note, write, restart}
 use Rattle.stripe.proofs.Accepted.{place-valid, note-facts, RestartFacts, facts-restart}
 use Rattle.stripe.proofs.Outcome.{note-answers, write-answers, restart-answers, leaves}
@@ -25,13 +26,13 @@ pub start-carried : (image : List ℕ) → Carried (record { map = []; log = [];
 unfolding soundMap soundLog apart mapOf draw end
 start-carried image = record { map = refl; log = refl; is = refl }
 
-pub note-carried : (s : Stripe) (first len number : ℕ) → Carried s → Carried (note s first len number .stripe)
+pub note-carried : (s : Stripe) (e : Extent) → Carried s → Carried (note s e .stripe)
 unfolding note
-note-carried s first len number c =
-    leaves Carried (note-answers s first len number) c
-    (λ e.
-    let k = note-facts (soundMap (s .map)) (soundLog (s .log)) (s .map) (s .log) first len number (length (s .image)) e in
-    let v = place-valid first len number (k .placed) (k .numbered) in
+note-carried s e c =
+    leaves Carried (note-answers s e) c
+    (λ h.
+    let k = note-facts (soundMap (s .map)) (soundLog (s .log)) (s .map) (s .log) e (length (s .image)) h in
+    let v = place-valid e (k .placed) (k .numbered) in
     let l = log-is (s .log) (c .log) in
     record {
       map = map-sound (r ∷ s .map) (valid-cons r (s .map) v (sound-is (s .map) (c .map) .good)) (k .few);
@@ -40,11 +41,10 @@ note-carried s first len number c =
     })
   where
     r : Run
-    r = place first len number
+    r = place e
 
-pub write-carried : (s : Stripe) (first : ℕ) (piece : List ℕ) (number : ℕ) → Carried s → Carried (write s first piece number .stripe)
-write-carried s first piece number c =
-    leaves Carried (write-answers s first piece number) c (λ _. record { map = c .map; log = c .log; is = c .is })
+pub write-carried : (s : Stripe) (p : Piece) → Carried s → Carried (write s p .stripe)
+write-carried s p c = leaves Carried (write-answers s p) c (λ _. record { map = c .map; log = c .log; is = c .is })
 
 -- what a restart asks of a log
 abbrev pub Restarts : List Run → Type 0

@@ -8,7 +8,8 @@ use Rattle.common.proofs.Order.{same}
 use Rattle.runs.specs.Owner.{over, owner}
 use Rattle.runs.specs.Map.{raise, mapOf}
 use Rattle.runs.proofs.Draw.{raise-owner}
-use Rattle.stripe.specs.Refusals.{place}
+use Rattle.stripe.specs.declared.Extent.{Extent}
+use Rattle.stripe.specs.Piece.{place, Piece}
 use Rattle.stripe.specs.Stripe.{Stripe, Outcome, answer, noted, note, wrote, write, restarted, restart}
 
 pub record Answers (old new : Stripe) (o : Outcome) : Type 0 where
@@ -18,13 +19,13 @@ pub record Answers (old new : Stripe) (o : Outcome) : Type 0 where
 answers : (r : ℕ) (old new : Stripe) → Answers old new (answer r old new)
 answers r old new = record { accepted = λ e. rw (eq-eqb r 0 e); refused = λ e. rw (ne-eqb r 0 e) }
 
-pub note-answers : (s : Stripe) (first len number : ℕ) → Answers s (noted s (place first len number)) (note s first len number)
+pub note-answers : (s : Stripe) (e : Extent) → Answers s (noted s (place e)) (note s e)
 unfolding note
-note-answers s first len number = answers _ s (noted s (place first len number))
+note-answers s e = answers _ s (noted s (place e))
 
-pub write-answers : (s : Stripe) (first : ℕ) (piece : List ℕ) (number : ℕ) → Answers s (wrote s first piece number) (write s first piece number)
+pub write-answers : (s : Stripe) (p : Piece) → Answers s (wrote s p) (write s p)
 unfolding write
-write-answers s first piece number = answers _ s (wrote s first piece number)
+write-answers s p = answers _ s (wrote s p)
 
 pub restart-answers : (s : Stripe) → Answers s (restarted s) (restart s)
 unfolding restart
@@ -39,15 +40,15 @@ leaves {o = o} P a p f =
     (same (o .refusal) 0)
 
 -- an accepted note and restart in plain words
-module _ (s : Stripe) (first len number : ℕ) (e : note s first len number .refusal ≡ 0) where
-  pub note-map : note s first len number .stripe .map ≡ raise (place first len number) (s .map)
-  note-map = ap (λ (t : Stripe). t .map) (note-answers s first len number .accepted e)
+module _ (s : Stripe) (e : Extent) (h : note s e .refusal ≡ 0) where
+  pub note-map : note s e .stripe .map ≡ raise (place e) (s .map)
+  note-map = ap (λ (t : Stripe). t .map) (note-answers s e .accepted h)
 
-  pub note-log : note s first len number .stripe .log ≡ s .log ++ place first len number ∷ []
-  note-log = ap (λ (t : Stripe). t .log) (note-answers s first len number .accepted e)
+  pub note-log : note s e .stripe .log ≡ s .log ++ place e ∷ []
+  note-log = ap (λ (t : Stripe). t .log) (note-answers s e .accepted h)
 
-  pub note-owner : (b : ℕ) → owner (note s first len number .stripe .map) b ≡ max (over (place first len number) b) (owner (s .map) b)
-  note-owner b = rw note-map (raise-owner (place first len number) (s .map) b)
+  pub note-owner : (b : ℕ) → owner (note s e .stripe .map) b ≡ max (over (place e) b) (owner (s .map) b)
+  note-owner b = rw note-map (raise-owner (place e) (s .map) b)
 
 pub restart-map : (s : Stripe) → restart s .refusal ≡ 0 → restart s .stripe .map ≡ mapOf (s .log)
 restart-map s e = ap (λ (t : Stripe). t .map) (restart-answers s .accepted e)

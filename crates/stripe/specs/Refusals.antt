@@ -8,45 +8,43 @@ use Rattle.common.specs.Counters.{width, highest}
 use Rattle.common.specs.Ranges.{eof}
 use Rattle.common.specs.Refusals.{Rule, rule}
 use Rattle.runs.specs.declared.Run.{Run}
-use Rattle.runs.specs.Owner.{run, owner}
+use Rattle.runs.specs.Owner.{ageOf, owner}
 use Rattle.runs.specs.Map.{raise, mapOf}
 use Rattle.runs.specs.Sound.{maxRuns, maxEntries}
-
--- The place of a piece: its bytes from `first` on, `len` of them, under its number
-abbrev pub place : ℕ → ℕ → ℕ → Run
-place first len number = run first (pred (first + len)) number
+use Rattle.stripe.specs.declared.Extent.{Extent}
+use Rattle.stripe.specs.Piece.{place}
 
 -- 14: "piece of length 0, past the image or past EOF"
-abbrev pub misplaced : ℕ → ℕ → ℕ → Bool
-misplaced first len image = eqb len 0 || (ltb image (first + len) || ltb eof (pred (first + len)))
+abbrev pub misplaced : Extent → ℕ → Bool
+misplaced e image = eqb (e .len) 0 || (ltb image (e .first + e .len) || ltb eof (pred (e .first + e .len)))
 
 -- 15: "number 0 or above 4,294,967,295"
-abbrev pub misnumbered : ℕ → Bool
-misnumbered number = eqb number 0 || ltb (highest width) number
+abbrev pub misnumbered : Extent → Bool
+misnumbered e = eqb (e .number .0) 0 || ltb (highest width) (e .number .0)
 
 -- 18: "some byte of the piece has a smaller number in the map": one of the `len` bytes from b on
 unfoldable pub behind : List Run → ℕ → ℕ → ℕ → Bool
-behind map number b zero = false
-behind map number b (suc len) = ltb (owner map b) number || behind map number (suc b) len
+behind map age b zero = false
+behind map age b (suc len) = ltb (owner map b) age || behind map age (suc b) len
 
 -- Note: 12 to 17. The first two arguments: is the map sound, is the log
-abbrev pub noteRules : Bool → Bool → List Run → List Run → ℕ → ℕ → ℕ → ℕ → List Rule
-noteRules mapSound logSound map log first len number image =
+abbrev pub noteRules : Bool → Bool → List Run → List Run → Extent → ℕ → List Rule
+noteRules mapSound logSound map log e image =
     rule 12 (not mapSound)
     ∷ rule 13 (not logSound)
-    ∷ rule 14 (misplaced first len image)
-    ∷ rule 15 (misnumbered number)
-    ∷ rule 16 (ltb maxRuns (length (raise (place first len number) map)))
+    ∷ rule 14 (misplaced e image)
+    ∷ rule 15 (misnumbered e)
+    ∷ rule 16 (ltb maxRuns (length (raise (place e) map)))
     ∷ rule 17 (leb maxEntries (length log))
     ∷ []
 
 -- Write: 12, 14, 15, 18
-abbrev pub writeRules : Bool → List Run → ℕ → ℕ → ℕ → ℕ → List Rule
-writeRules mapSound map first len number image =
+abbrev pub writeRules : Bool → List Run → Extent → ℕ → List Rule
+writeRules mapSound map e image =
     rule 12 (not mapSound)
-    ∷ rule 14 (misplaced first len image)
-    ∷ rule 15 (misnumbered number)
-    ∷ rule 18 (behind map number first len)
+    ∷ rule 14 (misplaced e image)
+    ∷ rule 15 (misnumbered e)
+    ∷ rule 18 (behind map (ageOf (place e)) (e .first) (e .len))
     ∷ []
 
 -- Restart: 12 (length only), 13, 16

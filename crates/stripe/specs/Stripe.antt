@@ -6,10 +6,12 @@ use lib.Dec.{eqb}
 use lib.ListN.{length, take, drop}
 use Rattle.common.specs.Refusals.{firstHit}
 use Rattle.runs.specs.declared.Run.{Run}
-use Rattle.runs.specs.Owner.{owner}
+use Rattle.runs.specs.Owner.{ageOf, owner}
 use Rattle.runs.specs.Map.{raise, mapOf}
 use Rattle.runs.specs.Sound.{soundMap, soundLog}
-use Rattle.stripe.specs.Refusals.{place, noteRules, writeRules, restartRules}
+use Rattle.stripe.specs.declared.Extent.{Extent}
+use Rattle.stripe.specs.Piece.{place, Piece, extentOf, placeOf}
+use Rattle.stripe.specs.Refusals.{noteRules, writeRules, restartRules}
 
 -- A stripe: its map, its log and its image
 pub record Stripe : Type 0 where
@@ -30,29 +32,25 @@ answer refusal old new = record { refusal = refusal; stripe = cond (eqb refusal 
 abbrev pub noted : Stripe → Run → Stripe
 noted s r = record { map = raise r (s .map); log = s .log ++ r ∷ []; image = s .image }
 
-unfoldable pub note : Stripe → ℕ → ℕ → ℕ → Outcome
-note s first len number =
-    answer (firstHit (noteRules (soundMap (s .map)) (soundLog (s .log)) (s .map) (s .log) first len number (length (s .image)))) s
-    (noted s (place first len number))
+unfoldable pub note : Stripe → Extent → Outcome
+note s e = answer (firstHit (noteRules (soundMap (s .map)) (soundLog (s .log)) (s .map) (s .log) e (length (s .image)))) s (noted s (place e))
 
 -- Write "stores the piece's byte exactly where the map's number equals the piece's". The image from the byte b on, with the piece's bytes so stored
 unfoldable pub stored : List Run → ℕ → ℕ → List ℕ → List ℕ → List ℕ
-stored map number b piece [] = []
-stored map number b [] (x ∷ xs) = x ∷ xs
-stored map number b (p ∷ ps) (x ∷ xs) = cond (eqb (owner map b) number) p x ∷ stored map number (suc b) ps xs
+stored map age b piece [] = []
+stored map age b [] (x ∷ xs) = x ∷ xs
+stored map age b (p ∷ ps) (x ∷ xs) = cond (eqb (owner map b) age) p x ∷ stored map age (suc b) ps xs
 
 -- "Write goes into the middle of the lent image"
 abbrev pub written : List Run → ℕ → List ℕ → ℕ → List ℕ → List ℕ
-written map first piece number image = take first image ++ stored map number first piece (drop first image)
+written map first piece age image = take first image ++ stored map age first piece (drop first image)
 
 -- "It changes no map byte"
-abbrev pub wrote : Stripe → ℕ → List ℕ → ℕ → Stripe
-wrote s first piece number = record { map = s .map; log = s .log; image = written (s .map) first piece number (s .image) }
+abbrev pub wrote : Stripe → Piece → Stripe
+wrote s p = record { map = s .map; log = s .log; image = written (s .map) (p .first) (p .bytes) (ageOf (placeOf p)) (s .image) }
 
-unfoldable pub write : Stripe → ℕ → List ℕ → ℕ → Outcome
-write s first piece number =
-    answer (firstHit (writeRules (soundMap (s .map)) (s .map) first (length piece) number (length (s .image)))) s
-    (wrote s first piece number)
+unfoldable pub write : Stripe → Piece → Outcome
+write s p = answer (firstHit (writeRules (soundMap (s .map)) (s .map) (extentOf p) (length (s .image)))) s (wrote s p)
 
 -- "Restart fills the map buffer with the log's map"
 abbrev pub restarted : Stripe → Stripe

@@ -29,19 +29,19 @@ loop-holds c = (omega arith, omega arith, omega arith, λ h. absurd (let z : ⊥
 add-middle : tie.Need-add-middle Inv-loop μ-loop
 add-middle c = omega (arith, facts (c .before .before .before .before) .few)
 
-run-at-requires : tie.Need-run-at-requires Inv-loop μ-loop
-run-at-requires c κs = let f = facts (c .before .before .before .before) in omega (arith, f .long, f .few)
+first-at-requires : tie.Need-first-at-requires Inv-loop μ-loop
+first-at-requires c κs = let f = facts (c .before .before .before .before) in omega (arith, f .long, f .few)
 
 loop-again : tie.Need-loop-again Inv-loop μ-loop
 loop-again c =
-    let l = c .before .before .before .before .loop in
+    let l = c .before .before .before .loop in
     let e : (l .low + l .high) / 2 + 1 - 1 ≡ (l .low + l .high) / 2 = omega arith in
-    (omega arith, omega arith, omega arith, λ h. rw (e, ← c .before .before .run-at .ensures) (c .if1 .taken), l .inv .4)
+    (omega arith, omega arith, omega arith, λ h. rw (e, ← c .before .first-at .ensures) (c .if1 .taken), l .inv .4)
 
 loop-again-2 : tie.Need-loop-again-2 Inv-loop μ-loop
 loop-again-2 c =
-    let l = c .before .before .before .before .loop in
-    (omega arith, omega arith, omega arith, l .inv .3, λ h. rw (← c .before .before .run-at .ensures) (c .if1 .left))
+    let l = c .before .before .before .loop in
+    (omega arith, omega arith, omega arith, l .inv .3, λ h. rw (← c .before .first-at .ensures) (c .if1 .left))
 
 returns : tie.Need-returns Inv-loop μ-loop
 returns c =
@@ -52,4 +52,4 @@ returns c =
 pub begun-spec : {M : Type 1} → statement M
 begun-spec =
     tie.close
-    (tie.spec Inv-loop μ-loop count-requires loop-holds add-middle run-at-requires (λ c. search needs) (λ c. search needs) loop-again (λ c. search needs) loop-again-2 returns)
+    (tie.spec Inv-loop μ-loop count-requires loop-holds add-middle first-at-requires (λ c. search needs) (λ c. search needs) loop-again (λ c. search needs) loop-again-2 returns)

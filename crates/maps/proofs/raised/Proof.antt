@@ -10,7 +10,8 @@ use Rattle.common.specs.Counters.{width}
 use Rattle.common.specs.Ranges.{eof}
 use Rattle.runs.specs.Owner.{owner}
 use Rattle.runs.specs.Bytes.{mapSize, runsOf}
-use Rattle.runs.proofs.Valid.{Valid}
+use Rattle.runs.proofs.Ages.{is-exact}
+use Rattle.runs.specs.Valid.{Valid}
 use Rattle.pen.specs.Drawing.{Fine, Drawn}
 use Rattle.pen.proofs.Steps.{few}
 use Rattle.runbytes.proofs.Places.{runs-from}
@@ -51,8 +52,8 @@ run-at-requires c κs =
     let f = facts (b .before .before .before .before .before) in
     omega (arith, f .long, f .few)
 
-pass-requires : tie.Need-pass-requires Inv-loop μ-loop
-pass-requires c κs =
+draw-run-requires : tie.Need-draw-run-requires Inv-loop μ-loop
+draw-run-requires c κs =
     let l = c .before .before .before in
     let b = l .before .before .before .before .before in
     let o = b .before .before .before .before .before in
@@ -66,7 +67,7 @@ loop-again c =
     let b = l .before .before .before .before .before in
     let o = b .before .before .before .before .before in
     let s = now (o .args .map) in
-    let w = c .before .before .pass .ensures in
+    let w = c .before .before .draw-run .ensures in
     let a = w .at in
     let m = b .begun .ensures .most in
     let v : Valid (t .run-at .result) = rw (t .run-at .ensures) (valid-at s (l .loop .i) (omega arith) (facts o .good)) in
@@ -77,29 +78,35 @@ rest-requires : tie.Need-rest-requires Inv-loop μ-loop
 rest-requires c κs =
     let f = c .before .before .before in
     let q = f .before .before .before .before in
-    let b = q .before .before .before .before .before .before .before .before .before in
+    let b = q .before .before .before .before .before .before .before .before .before .before in
+    let l = q .before .before .before .before .before in
+    let n = l .loop .inv .1 in
+    let x = l .loop .inv .3 in
+    let s = q .before .before .start-at .ensures .1 in
     let a = q .span .ensures .at in
     let k = few (q .span .result) (q .span .ensures .fine) (f .flush .ensures) in
     (search needs, b .before .before .before .before .before .pre .1, b .begun .ensures .most, omega arith)
 
 same-length : tie.Need-same-length Inv-loop μ-loop
-same-length c = let l = c .before .before .before .before .before .before .before .before .before .before .before .before .before .before in let h = l .before .before .before .before .before .before .before .before .before .before .pre .0 in search needs
+same-length c = let l = c .before .before .before .before .before .before .before .before .before .before .before .before .before .before .before in let h = l .before .before .before .before .before .before .before .before .before .before .pre .0 in search needs
 
 returns : tie.Need-returns Inv-loop μ-loop
 returns c =
     let f = c .before .before .before .before .before .before in
     let q = f .before .before .before .before in
-    let l = q .before .before .before .before in
+    let l = q .before .before .before .before .before in
     let b = l .before .before .before .before .before in
     let o = b .before .before .before .before .before in
     let s = now (o .args .map) in
+    let n = l .loop .inv .0 in
+    let t = q .before .before .before .before .loop-test .left in
     let e : l .loop .i ≡ b .begun .result = omega arith in
-    raise-done (o .args .piece) (runsOf width s) (o .pre .2) (drop (b .begun .result) (runsOf width s)) (l .loop .p) _ _ (l .loop .out) _ _ _ _ _
+    raise-done (o .args .piece) (runsOf width s) (o .pre .2) (drop (b .begun .result) (runsOf width s)) (l .loop .p) _ _ (l .loop .out) _ _ _ _ _ _
     (after-at (o .args .piece) s _ (b .begun .ensures .after)) (rw e at (l .loop .inv .4)) (l .loop .inv .5 _ (start (l .before) .drawn))
-    (rw (q .before .start-at .ensures .0) at (q .span .ensures)) (f .flush .ensures) (c .before .before .rest .ensures)
+    (q .before .none .ensures) (rw (q .before .before .start-at .ensures .0) at (q .span .ensures)) (f .flush .ensures) (c .before .before .rest .ensures)
 
 pub raised-spec : {M : Type 1} → statement M
 raised-spec =
     tie.close
-    (tie.spec Inv-loop μ-loop (λ c κs. search needs) (λ c. search needs) (λ c κs. search needs) (λ c κs. search needs) loop-holds run-at-requires pass-requires (λ c. search needs) (λ c. search needs) loop-again
-    (λ c κs. search needs) (λ c κs. search needs) (λ c κs. search needs) rest-requires same-length returns)
+    (tie.spec Inv-loop μ-loop (λ c κs. search needs) (λ c. search needs) (λ c κs. search needs) (λ c κs. search needs) loop-holds run-at-requires draw-run-requires (λ c. search needs) (λ c. search needs) loop-again
+    (λ c κs. search needs) (λ c κs. search needs) (λ c κs. search (needs, is-exact)) (λ c κs. search needs) rest-requires same-length returns)

@@ -1,12 +1,13 @@
 -- `rebuilt`: the pen stands where the next view starts, and what is drawn is what the log says before it.
 use Prim.Native.Nat.{suc, _-_, _≤_}
 use native.Mathlib.Omega.{arith}
-use mathlib.Core.Path.{_≡_}
+use mathlib.Core.Path.{_≡_, refl}
 use lib.ListN.{length}
 use borrow.Author.Needs.{needs}
 use denote.Ref.{now}
 use Rattle.common.specs.Counters.{width}
 use Rattle.common.specs.Ranges.{eof}
+use Rattle.runs.specs.Ages.{valueOf, age, Exact}
 use Rattle.runs.specs.Owner.{owner}
 use Rattle.runs.specs.Bytes.{mapSize, runsOf}
 use Rattle.runs.proofs.Valid.{beyond}
@@ -31,10 +32,15 @@ loop-holds c = rw (c .start .ensures) (c .before .before .before .pre .0, fresh-
 look-requires : tie.Need-look-requires Inv-loop μ-loop
 look-requires c κs = (c .before .before .before .before .before .before .pre .1, c .if1 .taken, c .before .before .loop .inv .4)
 
+push-requires : tie.Need-push-requires Inv-loop μ-loop
+unfolding Exact valueOf age
+push-requires c κs = (search needs, search needs, refl)
+
 -- the pen goes on as far as the view reaches
 went :
     (c : tie.After-slice-known2 Inv-loop μ-loop) → let o = c .before .before .before .before .before .before .before .before .before .before .before .before .args in
     Step (owner (runsOf width (now (o .log)))) (now (o .out)) (c .before .before .push .last .0) (c .before .before .before .before .before .before .before .before .loop .p .x) (c .before .before .before .before .before .look .result) (c .before .before .push .result)
+unfolding valueOf
 went c = let l = c .before .before .before .before .before .before .before .before .loop in reach-went (l .p) _ (l .out) _ _ _ _ _ (c .before .before .before .before .before .look .ensures) (c .before .before .before .lesser .ensures) (c .before .before .push .ensures) (l .inv .3)
 
 loop-again : tie.Need-loop-again Inv-loop μ-loop
@@ -50,4 +56,4 @@ returns c =
 
 pub rebuilt-spec : {M : Type 1} → statement M
 rebuilt-spec =
-    tie.close (tie.spec Inv-loop μ-loop (λ c κs. search needs) loop-holds look-requires (λ c κs. search needs) (λ c κs. search needs) (λ c. went c .less) loop-again (λ c κs. search needs) (λ c. search needs) returns)
+    tie.close (tie.spec Inv-loop μ-loop (λ c κs. search needs) loop-holds look-requires (λ c κs. search needs) push-requires (λ c. went c .less) loop-again (λ c κs. search needs) (λ c. search needs) returns)

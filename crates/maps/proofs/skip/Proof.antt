@@ -23,16 +23,19 @@ keep-requires c κs = let f = facts (c .before .before .before .before) in ((ome
 run-at-requires : tie.Need-run-at-requires
 run-at-requires c κs = let f = facts (c .before .before .before .before .before .before .before) in omega (arith, f .long, f .few)
 
-add-t10 : tie.Need-add-t10
-add-t10 c =
-    let o = c .before .before .before .before .before .before .before .before .before in
+add-t11 : tie.Need-add-t11
+add-t11 c =
+    let r = c .before .before in
+    let o = r .before .before .before .before .before .before .before .before in
     let v = valid-at (now (o .args .map)) (o .args .i - 1) (omega arith) (facts o .good) in
-    rw (c .before .run-at .ensures) (omega arith)
+    rw (r .run-at .ensures) (omega arith)
 
 returns-2 : tie.Need-returns-2
 returns-2 c =
-    let o = c .before .before .before .before .before .before .before .before .before in
-    rw (ne-eqb (o .args .i) 0 (c .before .before .before .before .before .before .if1 .left), c .before .run-at .ensures) (refl, c .before .before .before .before .keep .ensures)
+    let r = c .before .before in
+    let k = r .before .before .before in
+    let o = k .before .before .before .before .before in
+    rw (ne-eqb (o .args .i) 0 (k .before .before .if1 .left), r .run-at .ensures) (refl, k .keep .ensures)
 
 pub skip-spec : {M : Type 1} → statement M
-skip-spec = tie.close (tie.spec (search needs) returns (search needs) keep-requires run-at-requires add-t10 (λ c. search needs) returns-2)
+skip-spec = tie.close (tie.spec (search needs) returns (search needs) keep-requires run-at-requires add-t11 (λ c. search needs) returns-2)

@@ -7,4 +7,4 @@ use Rattle.maps.proofs.span.Tie as tie
 pub span-spec : {M : Type 1} → statement M
 span-spec =
     tie.close
-    (tie.spec (search needs) (search needs) (λ c. search span-before) (search needs) (search needs) (λ c. search span-after) (λ c κs. search needs) (search needs) (λ c. search needs))
+    (tie.spec (λ c κs. search needs) (λ c. search needs) (λ c. search span-before) (λ c κs. search needs) (λ c. search needs) (λ c. search span-after) (λ c κs. search needs) (λ c. search needs) (λ c. search needs))

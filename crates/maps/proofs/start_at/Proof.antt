@@ -14,18 +14,18 @@ facts c = map-facts _ (c .pre .0)
 count-requires : tie.Need-count-requires
 count-requires c κs = omega (arith, facts (c .before) .long)
 
-run-at-requires : tie.Need-run-at-requires
-run-at-requires c κs = let f = facts (c .before .before .before) in omega (arith, f .long, f .few)
+first-at-requires : tie.Need-first-at-requires
+first-at-requires c κs = let f = facts (c .before .before .before) in omega (arith, f .long, f .few)
 
 returns : tie.Need-returns
 returns c =
     let o = c .before .before .before .before in
     let s = now (o .args .map) in
     let i = o .args .i in
-    rw (runs-from s i (omega arith), c .run-at .ensures) (refl, let v = valid-at s i (omega arith) (facts o .good) in omega arith)
+    rw (runs-from s i (omega arith), c .first-at .ensures) (refl, let v = valid-at s i (omega arith) (facts o .good) in omega arith)
 
 returns-2 : tie.Need-returns-2
 returns-2 c = let o = c .before .before .before in rw (runs-end (now (o .args .map)) (o .args .i) (omega arith)) (refl, omega arith)
 
 pub start-at-spec : {M : Type 1} → statement M
-start-at-spec = tie.close (tie.spec count-requires run-at-requires returns (search needs) returns-2)
+start-at-spec = tie.close (tie.spec count-requires first-at-requires returns (search needs) returns-2)

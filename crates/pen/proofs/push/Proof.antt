@@ -5,4 +5,4 @@ use Rattle.pen.proofs.push.Statement.{statement}
 use Rattle.pen.proofs.push.Tie as tie
 
 pub push-spec : {M : Type 1} → statement M
-push-spec = tie.close (tie.spec (λ c. search needs) (λ c. search push-same) (search needs) (search needs) (λ c. search push-new))
+push-spec = tie.close (tie.spec (λ c. search needs) (λ c κs. search needs) (λ c. search push-same) (λ c κs. search needs) (λ c. search needs) (λ c. search push-new))

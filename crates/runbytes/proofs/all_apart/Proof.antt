@@ -1,5 +1,5 @@
 -- `all_apart`: what has passed, and the neighbours from place i on, decide as the whole.
-use Prim.Native.Nat.{_-_, _≤_}
+use Prim.Native.Nat.{_+_, _-_, _≤_}
 use native.Mathlib.Omega.{arith}
 use mathlib.Core.Path.{_≡_, refl, _∙_, ap₂}
 use mathlib.Core.Bool.{_&&_}
@@ -23,7 +23,9 @@ abbrev μ-loop : tie.MeasureT-loop
 is-apart-requires : tie.Need-is-apart-requires Inv-loop μ-loop
 is-apart-requires c κs =
     let o = c .before .before .before .before .before .before in
-    rw (c .before .run-at .ensures) (valid-at (now (o .args .s)) (c .before .before .before .loop .i) (omega arith) (o .pre .1) .short)
+    let s = now (o .args .s) in
+    let i = c .before .before .before .loop .i in
+    rw (c .before .run-at .ensures, c .run-at2 .ensures) (valid-at s i (omega arith) (o .pre .1), valid-at s (i + 1) (omega arith) (o .pre .1))
 
 loop-again : tie.Need-loop-again Inv-loop μ-loop
 loop-again c =

@@ -33,17 +33,20 @@ all-apart-requires c κs = (search needs, rw (← c .before .all-valid .ensures)
 returns-4 : tie.Need-returns-4
 unfolding soundMapBytes soundMap
 returns-4 c =
-    let s = now (c .before .before .before .before .before .before .before .before .args .s) in
+    let v = c .before .before .before .before in
+    let n = v .before .before in
+    let s = now (n .before .before .before .args .s) in
     rw (
-      eq-eqb _ _ (c .before .before .before .before .before .before .if1 .left),
+      eq-eqb _ _ (n .before .if1 .left),
       runs-length s,
       le-leb (be 4 s 0) maxRuns (omega arith),
-      sym (c .before .before .before .all-valid .ensures) ∙ not-false (c .before .before .before .all-valid .result) (c .before .before .if3 .left),
+      sym (v .all-valid .ensures) ∙ not-false (v .all-valid .result) (c .before .before .before .if3 .left),
       c .is-blank .ensures,
-      c .before .all-apart .ensures,
-      c .before .before .before .before .before .count .ensures .0,
+      c .before .place .ensures,
+      c .before .before .all-apart .ensures,
+      n .count .ensures .0,
     )
 
 pub map-sound-spec : {M : Type 1} → statement M
 map-sound-spec =
-    tie.close (tie.spec returns (search needs) returns-2 (search needs) returns-3 all-apart-requires (search needs) (search needs) (search needs) returns-4)
+    tie.close (tie.spec returns (search needs) returns-2 (search needs) returns-3 all-apart-requires (search needs) (search needs) returns-4)

@@ -6,6 +6,7 @@ use lib.ListN.{length, drop}
 use borrow.Author.Needs.{needs}
 use denote.Ref.{now}
 use Rattle.common.specs.Counters.{width}
+use Rattle.runs.specs.Ages.{valueOf}
 use Rattle.runs.specs.Bytes.{runsOf}
 use Rattle.runbytes.proofs.Facts.{map-facts}
 use Rattle.stripe.specs.Stripe.{stored}
@@ -14,11 +15,11 @@ use Rattle.store.proofs.store.Statement.{statement}
 use Rattle.store.proofs.store.Tie as tie
 
 abbrev Inv-loop : tie.InvT-loop
-Inv-loop part₀ piece map first number n i₀ part i =
-    (i ≤ n) × (length part ≡ length part₀) × (stored (drop i (runsOf width map)) (number .0) first piece part ≡ stored (runsOf width map) (number .0) first piece part₀)
+Inv-loop part₀ piece map first age n i₀ part i =
+    (i ≤ n) × (length part ≡ length part₀) × (stored (drop i (runsOf width map)) (valueOf age) first piece part ≡ stored (runsOf width map) (valueOf age) first piece part₀)
 
 abbrev μ-loop : tie.MeasureT-loop
-μ-loop part₀ piece map first number n i₀ part i = n - i
+μ-loop part₀ piece map first age n i₀ part i = n - i
 
 count-requires : tie.Need-count-requires Inv-loop μ-loop
 count-requires c κs = let s = c .before .before .before in let f = map-facts (now (s .args .map)) (s .pre .0) in omega arith
@@ -34,7 +35,7 @@ store-run-requires c κs =
     let l = c .before .before .before in
     let s = l .before .before .before .before .before in
     let v = valid-here (now (s .args .map)) (l .loop .i) (s .pre .0) (omega arith) in
-    (omega arith, omega arith, rw (c .run-at .ensures) (v .rising), rw (c .run-at .ensures) (v .short))
+    (omega arith, s .pre .1, s .pre .2, rw (c .run-at .ensures) v)
 
 loop-again : tie.Need-loop-again Inv-loop μ-loop
 loop-again c =
@@ -45,14 +46,14 @@ loop-again c =
       omega arith,
       search needs,
       rw (t .store-run .ensures, t .before .run-at .ensures)
-          (stored-more (now (a .map)) (l .loop .i) (s .pre .0) (omega arith) (a .number .0) (a .first) (now (a .piece)) (l .loop .part) _ (omega arith) (l .loop .inv .2)),
+          (stored-more (now (a .map)) (l .loop .i) (s .pre .0) (omega arith) (valueOf (a .age)) (a .first) (now (a .piece)) (l .loop .part) _ (omega arith) (l .loop .inv .2)),
     )
 
 returns : tie.Need-returns Inv-loop μ-loop
 returns c =
     let l = c .before in
     let a = l .before .before .before .before .before .args in
-    stored-end (now (a .map)) (l .loop .i) (omega arith) (a .number .0) (a .first) (now (a .piece)) (l .loop .part) _ (omega arith) (l .loop .inv .2)
+    stored-end (now (a .map)) (l .loop .i) (omega arith) (valueOf (a .age)) (a .first) (now (a .piece)) (l .loop .part) _ (omega arith) (l .loop .inv .2)
 
 pub store-spec : {M : Type 1} → statement M
 store-spec =

@@ -1,0 +1,37 @@
+// A piece's extent: its age, and the tests that note and write share, refusals 14 and 15.
+use runs::Age;
+use stripe::Extent;
+ghost use mathlib.Core.Path.{_≡_};
+ghost use Rattle.stripe.specs.Piece.{place};
+ghost use Rattle.stripe.specs.Refusals.{misplaced, misnumbered};
+
+// Tests whether a piece has length 0, or lies past the image or past EOF.
+pub fn is_misplaced(e: Extent, image: u64) -> bool
+    ensures { λ r. ⌜ r ≡ misplaced e image ⌝ }
+{
+    if e.len == 0 {
+        return true;
+    }
+    if image < e.len {
+        return true;
+    }
+    if image - e.len < e.first {
+        return true;
+    }
+    common::EOF < e.first + (e.len - 1)
+}
+
+// Tests whether a piece's number is 0, or above the highest.
+pub fn is_misnumbered(e: Extent) -> bool
+    ensures { λ r. ⌜ r ≡ misnumbered e ⌝ }
+{
+    (e.number.0 == 0) | (common::HIGHEST < e.number.0)
+}
+
+// Makes the age of a piece.
+pub fn age_of(e: Extent) -> Age
+    ensures { λ r. ⌜ r ≡ place e .age ⌝ }
+{
+    let number = e.number;
+    Age { number }
+}

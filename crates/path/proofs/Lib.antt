@@ -1,0 +1,5 @@
+pub mod Filling
+pub mod Noting
+pub mod Restarting
+pub mod WriteRules
+pub mod WriteOutcome

@@ -1,0 +1,4 @@
+pub mod Note
+pub mod Early
+pub mod Write
+pub mod Restart

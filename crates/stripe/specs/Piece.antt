@@ -1,0 +1,30 @@
+-- Pieces: what a holder flushes. A note is told a piece's extent, and a write is lent its bytes too.
+use Prim.Native.Nat.{ℕ, pred, _+_}
+use mathlib.Core.List.{List}
+use lib.ListN.{length}
+use Rattle.common.specs.Counters.{number}
+use Rattle.runs.specs.declared.Run.{Run}
+use Rattle.stripe.specs.declared.Extent.{Extent}
+
+-- What is told of a piece: "the piece's first byte, length, number"
+abbrev pub extent : ℕ → ℕ → ℕ → Extent
+extent first len n = record { first = first; len = len; number = number n }
+
+-- Its place: its bytes from the first on, at its age
+abbrev pub place : Extent → Run
+place e = record { first = e .first; last = pred (e .first + e .len); age = record { number = e .number } }
+
+-- A piece: its first byte, its bytes and its number. Two pieces with all three alike are one piece
+pub record Piece : Type 0 where
+  pub first : ℕ
+  pub bytes : List ℕ
+  pub number : ℕ
+
+abbrev pub piece : ℕ → List ℕ → ℕ → Piece
+piece first bytes number = record { first = first; bytes = bytes; number = number }
+
+abbrev pub extentOf : Piece → Extent
+extentOf p = extent (p .first) (length (p .bytes)) (p .number)
+
+abbrev pub placeOf : Piece → Run
+placeOf p = place (extentOf p)
