@@ -11,7 +11,7 @@ refused c =
     naming-refused _ _ _ _ (s .pre .0) _ (c .before .before .before .named .ensures) _ _ (releases (s .args .client) (s .args .handle .0)) _ _ (c .before .if1 .taken) (c .refused .ensures)
 
 remove-requires : tie.Need-remove-requires
-remove-requires c κs = (search needs, c .before .before .before .named .ensures .inside (c .before .if1 .left))
+remove-requires c κs = let h = c .before .before .before .named .ensures .inside (c .before .if1 .left) in (search needs, omega arith)
 
 sub-finish : tie.Need-sub-finish
 sub-finish c = let h = c .before .before .before .before .before .before .before .before .named .ensures .inside (c .before .before .before .before .before .before .if1 .left) in omega arith
