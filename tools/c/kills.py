@@ -1,6 +1,7 @@
 """Kills the example daemon with SIGKILL at random places, and checks what it leaves.
 
-    kills.py [--seed N] [--kills N] [--seconds N] [--only-the-end] DAEMON..      (DAEMON.. are the words that start the daemon)
+    kills.py [--seed N] [--kills N] [--seconds N] [--inside | --waiting] [--only-the-end] DAEMON..
+    (DAEMON.. are the words that start the daemon)
 
 A run begins with an empty log and an image of its own. Clients note, write and flush pieces in any order and again; the
 daemon is killed, looked at, and started again. This file keeps its own account of the stripe, byte by byte, from
@@ -9,11 +10,16 @@ document 01. After each kill
   - the log holds the entries of the noted pieces in note order, at most with that of the note that was cut;
   - the image is as the account has it, but for bytes that the write that was cut would store.
 
-At the end of a run, after all kills, each piece that was noted, or whose write was cut, is written until that is answered.
-Then each byte under a noted piece must be that of the noted piece with the greatest number there, and every other byte as
+At the end of a run, after all kills, each piece that was noted and had no write accepted, or whose last accepted write was
+cut, is written until that is answered. Then each byte under a noted piece must be that of the noted piece with the greatest number there, and every other byte as
 it began. --only-the-end leaves out the checks before.
 
-Runs are played until there were so many kills, or so many seconds are over. What is wrong ends it with status 10.
+Kills come from outside, at any time. With --inside the daemon kills itself, as trap.c has it: inside of a call, or between
+two of its stores. Each kill is counted by the place that it found, as the files show it (PLACES). With --waiting a kill amid
+the bytes of a write is not asked for: where the daemon waits for a disk, most kills fall into its waits.
+
+Runs are played until there were so many kills, and one in each place. Where so many seconds are not enough for that, it has
+failed. What is wrong ends it with status 10.
 """
 import argparse
 import os
@@ -31,6 +37,16 @@ TURNS = 14  # starts of the daemon in a run; in all but the first it is killed
 LINES = 60  # commands that wait for a daemon that is going to be killed
 LETTERS = bytes(range(33, 123)) * (LENGTH // 90 + 2)
 WRONG = 10
+AMID_BYTES = "amid the bytes of a write"
+PLACES = [
+    "at a restart",
+    "before the entry of a note",
+    "between entry and count of a note",
+    "after the count of a note",
+    "before the bytes of a write",
+    AMID_BYTES,
+    "after the bytes of a write",
+]
 
 
 class Wrong(Exception):
@@ -92,13 +108,15 @@ class Stripe:
 
 
 class Run:
-    def __init__(self, daemon, chance, directory, only_the_end, seen):
-        self.daemon, self.chance, self.directory = daemon, chance, directory
-        self.only_the_end, self.seen = only_the_end, seen
+    def __init__(self, options, chance, directory, seen):
+        self.daemon, self.inside, self.only_the_end = options.daemon, options.inside, options.only_the_end
+        self.chance, self.directory, self.seen = chance, directory, seen
         began = bytes(chance.randrange(128, 256) for _ in range(1000)) * (LENGTH // 1000 + 1)
         self.stripe = Stripe(began[:LENGTH])
         self.store("image", self.stripe.began)
+        self.written = set()  # pieces whose last accepted write ran to its end
         self.unfinished = []  # pieces whose last accepted write was cut
+        self.found = b""  # the log as the daemon found it
         self.seconds = 0  # how long the daemon takes for its commands
 
     def path(self, name):
@@ -116,14 +134,14 @@ class Run:
         """Starts the daemon on these commands, kills it amid them, and answers how many got their answer."""
         self.store("commands", b"".join(piece.lines[name] for name, piece in commands))
         words = self.daemon + [self.directory, str(LENGTH)]
-        cut = dict(os.environ, GIL_CUT=str(self.chance.randrange(1, 2**31) if kill else 0))  # for powercut.c
+        cut = dict(os.environ, GIL_CUT=str(self.chance.randrange(1, 2**31) if kill else 0))  # for powercut.c and trap.c
         with open(self.path("commands"), "rb") as lines:
             process = subprocess.Popen(words, stdin=lines, stdout=subprocess.PIPE, env=cut)
         first = b""
         if self.chance.randrange(8) > 0:  # else the kill may come before the daemon is there
             first = process.stdout.readline()
         begun = time.perf_counter()
-        if kill:
+        if kill and not self.inside:
             time.sleep(0.6 * self.chance.random() * self.seconds)  # a sleep is longer than it is asked to be
             process.send_signal(signal.SIGKILL)
         answers = (first + process.communicate()[0]).splitlines()
@@ -131,14 +149,19 @@ class Run:
             self.seconds = time.perf_counter() - begun
         if process.returncode not in ((0, -signal.SIGKILL) if kill else (0,)):
             raise Wrong(f"the daemon ended with status {process.returncode} and {answers[-1:]}")
-        self.seen["kills"] += process.returncode != 0
+        killed = process.returncode != 0
+        self.seen["kills"] += killed
         answers = [int(answer.split()[0]) for answer in answers]
         for (name, piece), answer in zip(commands, answers[1:]):
             self.account(name, piece, answer)
         answered = max(0, len(answers) - 1)
         if process.returncode == 0 and answered < len(commands):
             raise Wrong(f"the daemon left {len(commands) - answered} commands without an answer")
-        self.look(*commands[answered] if answered < len(commands) else (None, None))
+        under_way = commands[answered] if answered < len(commands) else (None, None)
+        if killed and not answers:
+            self.seen["at a restart"] += 1  # that of the start
+            under_way = (None, None)
+        self.look(*under_way)
         return answered
 
     def account(self, name, piece, answer):
@@ -150,24 +173,34 @@ class Run:
             raise Wrong(f"{name} of {piece} answered {answer}, not {right}")
         if name in ("write", "flush") and right == 0:
             self.stripe.write(piece, piece.bytes)
+            self.written.add(piece)
             self.unfinished = [other for other in self.unfinished if other is not piece]
 
     def look(self, name, piece):
         """The daemon has ended, perhaps amid this command. The log says whether its note was cut."""
         log, image, stripe = self.stored("log"), self.stored("image"), self.stripe
         count = int.from_bytes(log[:4], "big")
+        entry = slice(4 + 20 * count, 24 + 20 * count)
         writing = name == "write" and not stripe.refuses(piece)
-        if name in ("note", "flush") and count == len(stripe.noted) + 1:
+        if name == "restart":
+            self.seen["at a restart"] += 1
+        elif name in ("note", "flush") and count == len(stripe.noted) + 1:
             stripe.note(piece)
             writing = name == "flush"
             self.seen["after the count of a note"] += 1
-        elif name in ("note", "flush") and log[4 + 20 * count : 24 + 20 * count] == piece.entry:
-            self.seen["after the entry of a note"] += 1
+        elif name in ("note", "flush") and log[entry] == piece.entry and self.found[entry] != piece.entry:
+            self.seen["between entry and count of a note"] += 1
+        elif name in ("note", "flush"):
+            self.seen["before the entry of a note"] += 1
         if writing:
             self.unfinished.append(piece)
-            now, old = image[piece.first : piece.end], stripe.image[piece.first : piece.end]
-            self.seen["amid the bytes of a write"] += now not in (old, stripe.after(piece, piece.bytes))
+            self.written.discard(piece)
+            now, old = image[piece.first : piece.end], bytes(stripe.image[piece.first : piece.end])
+            whole = stripe.after(piece, piece.bytes)
+            if old != whole:
+                self.seen[f"{'before' if now == old else 'after' if now == whole else 'amid'} the bytes of a write"] += 1
             stripe.write(piece, now)  # any bytes at the places that it would store
+        self.found = log
         if not self.only_the_end:
             entries = b"".join(piece.entry for piece in stripe.noted)
             if count != len(stripe.noted) or log[4 : 4 + len(entries)] != entries:
@@ -186,7 +219,7 @@ class Run:
             weights = [1] * len(weights) + [10] * 12
             names = chance.choices(("note", "write", "flush", "restart"), (4, 6, 6, 1), k=LINES)
             self.serve(list(zip(names, chance.choices(pieces, weights, k=LINES))), kill=turn > 0)
-        rest = list(dict.fromkeys(self.stripe.noted + self.unfinished))
+        rest = list(dict.fromkeys([piece for piece in self.stripe.noted if piece not in self.written] + self.unfinished))
         chance.shuffle(rest)
         for kill in (True, True, False):
             rest = rest[self.serve([("write", piece) for piece in rest], kill) :]
@@ -204,21 +237,31 @@ def main():
     parser.add_argument("--seed", type=int, default=int.from_bytes(os.urandom(4), "big"))
     parser.add_argument("--kills", type=int, default=300)
     parser.add_argument("--seconds", type=float, default=60)
+    parser.add_argument("--inside", action="store_true")
+    parser.add_argument("--waiting", action="store_true")
     parser.add_argument("--only-the-end", action="store_true")
     parser.add_argument("daemon", nargs=argparse.REMAINDER)
     options = parser.parse_args()
     print(f"kills: seed {options.seed}", file=sys.stderr)
     chance, seen, runs, begun = random.Random(options.seed), Counter(), 0, time.perf_counter()
+    needed = [place for place in PLACES if place != AMID_BYTES or not options.waiting]
+
+    def missing():
+        """What was asked for and has not come yet."""
+        return [f"only {seen['kills']} kills of {options.kills}"] * (seen["kills"] < options.kills) + [f"no kill {place}" for place in needed if not seen[place]]
+
     try:
-        while seen["kills"] < options.kills and time.perf_counter() - begun < options.seconds:
+        while missing() and time.perf_counter() - begun < options.seconds:
             with tempfile.TemporaryDirectory(prefix="gilboreth-") as directory:
-                Run(options.daemon, chance, directory, options.only_the_end, seen).play()
+                Run(options, chance, directory, seen).play()
             runs += 1
     except Wrong as wrong:
         print(f"kills: WRONG after {seen['kills']} kills (seed {options.seed}): {wrong}", file=sys.stderr)
         sys.exit(WRONG)
-    places = ", ".join(f"{number} {what}" for what, number in seen.items() if what != "kills")
+    places = ", ".join(f"{seen[place]} {place}" for place in PLACES)
     print(f"kills: {seen['kills']} in {runs} runs, {time.perf_counter() - begun:.0f} s: {places}; all images right", file=sys.stderr)
+    if missing():
+        sys.exit(f"kills: FAILED: {', '.join(missing())} in {options.seconds:.0f} s")
 
 
 main()

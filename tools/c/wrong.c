@@ -1,5 +1,6 @@
 /* wrong.c: entries that are wrong on purpose, linked around the library's own (--wrap): kills.py has to find them. */
 #include <gilboreth.h>
+#include <stdlib.h>
 #include <string.h>
 
 #ifdef BY_ARRIVAL
@@ -27,5 +28,28 @@ uint64_t __wrap_gil_restart(uint8_t *map, size_t map_len, const uint8_t *log, si
     (void)log_len;
     memset(map, 0, map_len);
     return GIL_ACCEPTED;
+}
+#endif
+
+#ifdef PUTS_BACK
+/* Stores the whole piece, and then puts back the bytes under other numbers. What it leaves is right; what a cut finds is not. */
+uint64_t __real_gil_write(const uint8_t *map, size_t map_len, uint8_t *image, size_t image_len, uint64_t first,
+                          const uint8_t *piece, size_t piece_len, uint64_t number);
+uint64_t puts_back(const uint8_t *map, size_t map_len, uint8_t *image, size_t image_len, uint64_t first,
+                   const uint8_t *piece, size_t piece_len, uint64_t number);
+uint64_t puts_back(const uint8_t *map, size_t map_len, uint8_t *image, size_t image_len, uint64_t first,
+                   const uint8_t *piece, size_t piece_len, uint64_t number)
+{
+    uint8_t *right = malloc(image_len);
+    if (right == NULL)
+        abort();
+    memcpy(right, image, image_len);
+    uint64_t refusal = __real_gil_write(map, map_len, right, image_len, first, piece, piece_len, number);
+    if (refusal == GIL_ACCEPTED) {
+        memcpy(image + first, piece, piece_len);
+        memcpy(image + first, right + first, piece_len);
+    }
+    free(right);
+    return refusal;
 }
 #endif
