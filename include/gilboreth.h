@@ -30,7 +30,8 @@ extern "C" {
  * These things it can't see, so they are yours:
  *
  *   - The buffers of one call don't overlap.
- *   - No pointer is null, also where its length is 0.
+ *   - A pointer is null only where its length is 0. Such a buffer is answered as an empty one. (The proof
+ *     speaks of buffers that are there; for null pointers this is tested, for every buffer of every call.)
  *   - Each buffer has at least the length that is passed with it.
  *   - One call at a time on a buffer. Nothing else reads or changes it until the call returns.
  *     Calls on different buffers may run at the same time.
@@ -203,9 +204,9 @@ static inline const char *gil_refusal_text(uint64_t refusal)
     }
 }
 
-/* A compiler that knows these attributes warns of a null pointer, and of an answer that nobody looks at. */
+/* A compiler that knows this attribute warns of an answer that nobody looks at. */
 #if defined(__GNUC__)
-#define GIL_CHECKED __attribute__((nonnull, warn_unused_result))
+#define GIL_CHECKED __attribute__((warn_unused_result))
 #else
 #define GIL_CHECKED
 #endif

@@ -63,7 +63,7 @@ IS(GIL_MAP_BYTES, 4 + GIL_MAX_RUNS * GIL_BYTES_PER_RUN);
 IS(GIL_LOG_BYTES, 4 + GIL_MAX_ENTRIES * GIL_BYTES_PER_RUN);
 
 static uint8_t table[GIL_TABLE_BYTES], events[GIL_EVENTS_BYTES], map[GIL_MAP_BYTES], log_bytes[GIL_LOG_BYTES];
-static uint8_t image[4 * GIL_MAX_RUNS];
+static uint8_t image[100 * GIL_MAX_RUNS];
 
 static void check(int holds, const char *what, int line)
 {
@@ -279,6 +279,77 @@ static void most_events(void)
     CHECK(last.handle == GIL_MAX_RECORDS && last.number == 0);
 }
 
+/* A null pointer of length 0 is an empty buffer. Every other buffer of the call stays as it is. */
+static void null_buffers(void)
+{
+    static naming *const namings[] = {gil_acknowledge, gil_downgrade, gil_release};
+    static uint8_t zeros[sizeof log_bytes];
+    size_t t = sizeof table, e = sizeof events, m = sizeof map, l = sizeof log_bytes, n = sizeof image;
+    uint8_t one[1] = {1};
+    memset(table, 0, t);
+    memset(events, 0, e);
+    memset(map, 0, m);
+    memset(log_bytes, 0, l);
+    CHECK(gil_request(NULL, 0, events, e, 0, 0, GIL_MODE_PR, 0, 0).refusal == GIL_REFUSED_TABLE);
+    CHECK(gil_request(table, t, NULL, 0, 0, 0, GIL_MODE_PR, 0, 0).refusal == GIL_REFUSED_EVENT_BUFFER);
+    CHECK(gil_request(NULL, 0, NULL, 0, 0, 0, GIL_MODE_PR, 0, 0).refusal == GIL_REFUSED_EVENT_BUFFER);
+    for (size_t i = 0; i < sizeof namings / sizeof *namings; i++) {
+        CHECK(namings[i](NULL, 0, events, e, 0, 1).refusal == GIL_REFUSED_TABLE);
+        CHECK(namings[i](table, t, NULL, 0, 0, 1).refusal == GIL_REFUSED_EVENT_BUFFER);
+        CHECK(namings[i](NULL, 0, NULL, 0, 0, 1).refusal == GIL_REFUSED_EVENT_BUFFER);
+    }
+    CHECK(gil_note(NULL, 0, log_bytes, l, 0, 1, 1, 1) == GIL_REFUSED_MAP);
+    CHECK(gil_note(map, m, NULL, 0, 0, 1, 1, 1) == GIL_REFUSED_LOG);
+    CHECK(gil_note(NULL, 0, NULL, 0, 0, 1, 1, 1) == GIL_REFUSED_MAP);
+    CHECK(gil_restart(NULL, 0, log_bytes, l) == GIL_REFUSED_MAP);
+    CHECK(gil_restart(map, m, NULL, 0) == GIL_REFUSED_LOG);
+    CHECK(gil_restart(NULL, 0, NULL, 0) == GIL_REFUSED_MAP);
+    CHECK(memcmp(map, zeros, m) == 0);
+    CHECK(note(m, l, 0, 1, 1) == 0 && image[0] == 0);
+    CHECK(gil_write(NULL, 0, image, n, 0, one, 1, 1) == GIL_REFUSED_MAP);
+    CHECK(gil_write(map, m, NULL, 0, 0, one, 1, 1) == GIL_REFUSED_PIECE);
+    CHECK(gil_write(map, m, image, n, 0, NULL, 0, 1) == GIL_REFUSED_PIECE);
+    CHECK(gil_write(map, m, NULL, 0, 0, NULL, 0, 1) == GIL_REFUSED_PIECE);
+    CHECK(gil_write(NULL, 0, NULL, 0, 0, NULL, 0, 1) == GIL_REFUSED_MAP);
+    CHECK(memcmp(table, zeros, t) == 0 && memcmp(events, zeros, e) == 0 && image[0] == 0);
+}
+
+/* The calls that may take the most stack: long pieces, full maps and logs, full tables and their events. */
+static void deep_calls(void)
+{
+    static uint8_t piece[sizeof image];
+    size_t t = sizeof table, e = sizeof events, m = sizeof map, l = sizeof log_bytes, n = sizeof image;
+    memset(map, 0, m);
+    memset(log_bytes, 0, l);
+    memset(piece, 7, n);
+    /* a piece of 100 KB over one run, and over 1,000 runs of which it owns every other one */
+    CHECK(note(m, l, 0, n, 1) == 0 && gil_write(map, m, image, n, 0, piece, n, 1) == 0);
+    CHECK(image[0] == 7 && image[n - 1] == 7);
+    for (uint64_t i = 0; i < 500; i++)
+        CHECK(note(m, l, 200 * i, 100, 2 + i) == 0);
+    CHECK(gil_count(map) == 1000 && gil_write(map, m, image, n, 0, piece, n, 1) == 0);
+    /* a note that meets every run, and a restart of the log when it is full, which draws them again */
+    CHECK(note(m, l, 1, n - 1, 500) == 0 && note(m, l, 0, n, 1) == 0);
+    while (gil_count(log_bytes) < GIL_MAX_ENTRIES)
+        CHECK(note(m, l, 2 * (uint64_t)gil_count(log_bytes), 1, 500) == 0);
+    CHECK(gil_restart(map, m, log_bytes, l) == 0);
+    for (size_t i = 0; i < GIL_MAX_ENTRIES; i++) {
+        put_u32(log_bytes + gil_entry_place(i) + 4, 2 * (uint64_t)(i % GIL_MAX_RUNS));
+        put_u32(log_bytes + gil_entry_place(i) + 12, 2 * (uint64_t)(i % GIL_MAX_RUNS));
+    }
+    CHECK(gil_restart(map, m, log_bytes, l) == 0 && gil_count(map) == GIL_MAX_RUNS);
+    CHECK(note(m, l, 0, n, GIL_HIGHEST) == GIL_REFUSED_ENTRIES);
+    /* an acknowledge that grants 254 requests, and a request, a downgrade and a release among 256 records */
+    memset(table, 0, t);
+    CHECK(ask(t, e, 0, 0, GIL_MODE_NBW, 0, 9) == 0);
+    for (int i = 2; i < GIL_MAX_RECORDS; i++)
+        CHECK(ask(t, e, 1, 0, GIL_MODE_NBW, 0, 9) == 0);
+    CHECK(gil_acknowledge(table, t, events, e, 0, 1).events == GIL_MAX_RECORDS - 2);
+    CHECK(ask(t, e, 2, 0, GIL_MODE_PW, 0, 9) == 0 && ask(t, e, 2, 0, GIL_MODE_PW, 0, 9) == GIL_REFUSED_RECORDS);
+    CHECK(gil_downgrade(table, t, events, e, 1, 2).refusal == GIL_REFUSED_STATE);
+    CHECK(gil_release(table, t, events, e, 2, GIL_MAX_RECORDS).refusal == 0);
+}
+
 static void *everything(void *nothing)
 {
     request();
@@ -290,15 +361,25 @@ static void *everything(void *nothing)
     texts();
     codes();
     most_events();
+    null_buffers();
+    deep_calls();
     return nothing;
 }
 
-/* All of it on a stack of 64 KB, with which the header says that a call can do. */
+/* All of it on one stack, which is filled before and looked at after. The header says that a call needs less than 64 KB; what the thread
+ * itself needs is counted too. A call that jumps over a guard would be seen as well. */
 int main(void)
 {
-    pthread_attr_t small;
+    static _Alignas(4096) uint8_t stack[1024 * 1024];
+    pthread_attr_t attributes;
     pthread_t thread;
-    CHECK(pthread_attr_init(&small) == 0 && pthread_attr_setstacksize(&small, 64 * 1024) == 0);
-    CHECK(pthread_create(&thread, &small, everything, NULL) == 0 && pthread_join(thread, NULL) == 0);
+    size_t unused = 0;
+    memset(stack, 0xa5, sizeof stack);
+    CHECK(pthread_attr_init(&attributes) == 0 && pthread_attr_setstack(&attributes, stack, sizeof stack) == 0);
+    CHECK(pthread_create(&thread, &attributes, everything, NULL) == 0 && pthread_join(thread, NULL) == 0);
+    while (unused < sizeof stack && stack[unused] == 0xa5)
+        unused++;
+    fprintf(stderr, "== C: at most %zu bytes of stack were used\n", sizeof stack - unused);
+    CHECK(sizeof stack - unused < 64 * 1024);
     return 0;
 }
