@@ -5,7 +5,7 @@
 //! made of them too.
 
 use crate::calls::{Calls, MODEL};
-use crate::model::locks::{decode, Answer};
+use crate::model::locks::{decode, event_at, Answer};
 use crate::model::serve::Message;
 use std::collections::BTreeSet;
 use std::fmt::{Arguments, Debug};
@@ -46,7 +46,7 @@ impl Beside {
         if answer.refusal == 0 {
             assert!(decode(table).is_some(), "{message:?} leaves a table that isn't sound");
             let integer = |at: usize| u32::from_be_bytes(events[at..at + 4].try_into().unwrap());
-            let starts = (0..answer.events as usize).map(|place| 4 + 44 * place);
+            let starts = (0..answer.events as usize).map(event_at);
             self.events.extend(starts.map(|at| [integer(at), integer(at + 16), integer(at + 20)]));
         }
         answer

@@ -1,14 +1,15 @@
 //! The settled examples of document 01, whole: P1 to P11, and those that are run only. They are run by
-//! the library and by the model.
+//! the library and by the model; sessions also by the line program.
 
 mod both;
+mod piped;
 mod runs;
 mod transcript;
 
 use both::{note, restart, write};
-use gilboreth_host::model::line::line;
 use gilboreth_host::model::locks::{EVENTS_BYTES, TABLE_BYTES};
 use gilboreth_host::model::stripe::{LOG_BYTES, MAP_BYTES};
+use gilboreth_host::{EventBuffer, Log, Map, Table};
 use runs::runs;
 use transcript::{play, play_on};
 
@@ -31,38 +32,26 @@ fn table(issued: u32, number: u32, records: &[([u32; 6], u64, u64)]) -> Vec<u8> 
 fn sizes() {
     assert_eq!((TABLE_BYTES, EVENTS_BYTES), (10_312, 11_268));
     assert_eq!((MAP_BYTES, LOG_BYTES), (20_484, 40_964));
+    assert_eq!((Table::BYTES, EventBuffer::BYTES), (10_312, 11_268));
+    assert_eq!((Map::BYTES, Log::BYTES), (20_484, 40_964));
 }
+
+/// P1 as document 01 has it, a call a line: the message, and what it is answered.
+const P1: &str = include_str!("../../examples/p1.txt");
 
 #[test]
 fn p1() {
-    let end = play(
-        "
-        R,0,0,2,0,20   =,0,1  G,1,0,0,2,1,1,0,EOF
-        R,1,0,2,10,30  =,0,2  V,1,0,0,2,2,1,0,EOF
-        A,0,1          =,0,1  G,2,1,0,2,1,2,10,EOF
-        R,2,0,1,0,5    =,0,3
-        F,0,1          =,0,1  G,3,2,0,1,1,0,0,9
-        F,1,2          =,0,2
-        ",
-    );
+    let end = play(P1);
     // The PR lock of client 2 remains: handle, client, stripe, mode, state, number, first, last.
     assert!(end == table(3, 2, &[([3, 2, 0, 1, 1, 0], 0, 9)]));
 }
 
+/// The example session begins with P1.
 #[test]
-fn p1_through_the_line_program() {
-    let input = b"R,0,0,2,0,20\nR,1,0,2,10,30\nA,0,1\nR,2,0,1,0,5\nF,0,1\nF,1,2\n";
-    let output = "=,0,1\r\n\
-        G,1,0,0,2,1,1,0,9223372036854775807\r\n\
-        =,0,2\r\n\
-        V,1,0,0,2,2,1,0,9223372036854775807\r\n\
-        =,0,1\r\n\
-        G,2,1,0,2,1,2,10,9223372036854775807\r\n\
-        =,0,3\r\n\
-        =,0,1\r\n\
-        G,3,2,0,1,1,0,0,9\r\n\
-        =,0,2\r\n";
-    assert_eq!(String::from_utf8(line(input)).unwrap(), output);
+fn p1_in_the_example_session() {
+    let messages = P1.lines().map(|call| call.split_whitespace().next().unwrap());
+    let session = include_str!("../../examples/session.csv");
+    assert!(session.lines().zip(messages).filter(|(line, message)| line == message).count() == 6);
 }
 
 #[test]

@@ -1,8 +1,11 @@
-//! Laws of the lock table, over random sessions with few stripes and crowded ranges.
+//! Laws of the lock table, over random sessions from the empty table with few stripes and crowded
+//! ranges. The sessions are played by the library and by the model.
 
 mod messages;
 
-use gilboreth_host::model::locks::{answer, decode, encode, Answer, EVENTS_BYTES, TABLE_BYTES};
+use gilboreth_host::beside::Beside;
+use gilboreth_host::calls::LIBRARY;
+use gilboreth_host::model::locks::{decode, encode, Answer, EVENTS_BYTES, TABLE_BYTES};
 use gilboreth_host::model::modes::{Mode, State};
 use gilboreth_host::model::serve::{obstacle, serve, successor, Event, Kind, Message};
 use gilboreth_host::model::table::{Record, Table, STRIPES};
@@ -10,35 +13,38 @@ use gilboreth_host::model::EOF;
 use gilboreth_host::random::for_seeds;
 use messages::message;
 
-/// One table as values and as bytes, and what the session has seen of it.
+/// One table as values, and as bytes that the library serves beside the model, and what the session has seen of it.
 struct Session {
+    library: Beside,
     table: Table,
     bytes: Vec<u8>,
     /// The requests as they were asked; the first has handle 1.
     asked: Vec<Record>,
     /// The write grants of each stripe.
     write_grants: [u64; STRIPES],
-    /// Grants that came canceling, grants that something stopped before EOF, and revocations.
-    seen: [u64; 3],
+    /// Grants that came canceling, grants that something stopped before EOF, revocations, and
+    /// requests that waited for another waiting one alone.
+    seen: [u64; 4],
 }
 
 impl Session {
     fn new() -> Session {
         Session {
+            library: Beside::new(LIBRARY),
             table: Table::default(),
             bytes: vec![0; TABLE_BYTES],
             asked: Vec::new(),
             write_grants: [0; STRIPES],
-            seen: [0; 3],
+            seen: [0; 4],
         }
     }
 
-    /// Serves a message on the values and on the bytes, and tests every law.
+    /// Serves a message on the values and, by the library too, on the bytes, and tests every law.
     fn serve(&mut self, message: Message) {
         let (old_table, old_bytes) = (self.table.clone(), self.bytes.clone());
         let old_buffer = vec![0xEE; EVENTS_BYTES];
         let mut buffer = old_buffer.clone();
-        let answered = answer(&mut self.bytes, &mut buffer, message);
+        let answered = self.library.serve(&mut self.bytes, &mut buffer, message);
         match serve(&mut self.table, message) {
             Err(refusal) => {
                 assert_eq!(answered, Answer { refusal, handle: 0, events: 0 });
@@ -50,12 +56,13 @@ impl Session {
                 assert_eq!(answered, Answer { refusal: 0, handle, events });
                 self.remember(message, handle);
                 self.check_table();
+                self.check_waits();
                 self.check_events(&accepted.events);
             }
         }
     }
 
-    /// An accepted request takes the next handle.
+    /// The accepted requests are answered with 1, 2, 3, ..: no handle is given twice.
     fn remember(&mut self, message: Message, handle: u64) {
         if let Message::Request { client, stripe, mode, first, last } = message {
             let mode = Mode::of_code(mode).unwrap();
@@ -76,6 +83,18 @@ impl Session {
             let wanted =
                 |lock: &Record| lock.state == State::Granted && request.conflicts_with(lock);
             assert!(!records().any(wanted), "{request:?}");
+        }
+    }
+
+    /// Nobody is overtaken: what stands in a request's way was there before it. So the record with the
+    /// smallest handle never waits.
+    fn check_waits(&mut self) {
+        let records = &self.table.records;
+        assert!(!records.first().map_or(false, Record::waiting), "{:?}", records[0]);
+        for request in records.iter().filter(|record| record.waiting()) {
+            let obstacles = || records.iter().filter(|other| obstacle(request, other));
+            assert!(obstacles().all(|other| other.handle < request.handle), "{request:?}");
+            self.seen[3] += u64::from(obstacles().all(Record::waiting));
         }
     }
 

@@ -1,9 +1,11 @@
 //! The line program's reading of lines, good and bad: the model's, and the program's beside it.
 
+mod pieces;
 mod piped;
 
 use gilboreth_host::model::line::line;
-use piped::{written, written_in_pieces};
+use pieces::written_in_pieces;
+use piped::written;
 
 /// What the model answers, and the program too, by one read for all or one for each byte.
 fn answers(input: &[u8]) -> String {

@@ -6,7 +6,7 @@ mod tables;
 
 use gilboreth_host::beside::{finds_out, Beside};
 use gilboreth_host::calls::{Calls, LIBRARY};
-use gilboreth_host::model::locks::Answer;
+use gilboreth_host::model::locks::{event_at, Answer};
 use lock_scenes::{damage, drawn, edges, limits, sessions};
 
 /// Four sorts of sessions, which differ in how fast their tables fill. They reach every refusal
@@ -154,7 +154,7 @@ fn wrong_versions() {
                     let answer =
                         (LIBRARY.request)(table, events, client, stripe, mode, first, last);
                     if answer.refusal == 0 {
-                        events[4 + 44 * answer.events as usize..].fill(0);
+                        events[event_at(answer.events as usize)..].fill(0);
                     }
                     answer
                 },

@@ -2,6 +2,7 @@
 //! its input comes, and how it ends.
 
 mod messages;
+mod pieces;
 mod piped;
 
 use gilboreth_host::model::line::line;
@@ -9,7 +10,8 @@ use gilboreth_host::model::serve::{serve, Message};
 use gilboreth_host::model::table::Table;
 use gilboreth_host::random::{for_seeds, Random};
 use messages::message;
-use piped::{finished, program, written, written_in_pieces};
+use pieces::written_in_pieces;
+use piped::{finished, program, written};
 use std::fs::{read, File};
 use std::io::{Read, Write};
 use std::process::Stdio;

@@ -2,13 +2,14 @@
 //! library and by the model.
 
 mod both;
+mod piped;
 mod runs;
 mod transcript;
 
 use both::{note, restart, write};
 use gilboreth_host::model::locks::encode;
 use gilboreth_host::model::modes::{Mode, State};
-use gilboreth_host::model::stripe::{LOG_BYTES, MAP_BYTES};
+use gilboreth_host::model::stripe::{run_at, LOG_BYTES, MAP_BYTES};
 use gilboreth_host::model::table::{Record, Table};
 use runs::runs;
 use transcript::{play, play_on};
@@ -95,6 +96,23 @@ fn an_earlier_waiting_request_is_an_obstacle() {
         R,2,0,1,0,5    =,0,3
         F,0,1          =,0,1  G,2,1,0,2,3,2,0,19
         F,1,2          =,0,2  G,3,2,0,1,1,0,0,EOF
+        ",
+    );
+}
+
+/// Handle 3 goes on waiting for handle 2 where the later handle 4 conflicts with it too: a request
+/// that hurries another on doesn't let it pass an earlier one.
+#[test]
+fn a_later_request_lets_nobody_pass_an_earlier_one() {
+    play(
+        "
+        R,0,0,4,10,19  =,0,1  G,1,0,0,4,1,1,10,EOF
+        R,1,0,2,0,19   =,0,2  V,1,0,0,4,2,1,10,EOF
+        R,2,0,1,0,5    =,0,3
+        R,3,0,4,0,5    =,0,4
+        F,0,1          =,0,1  G,2,1,0,2,3,2,0,19
+        F,1,2          =,0,2  G,3,2,0,1,3,0,0,5
+        F,2,3          =,0,3  G,4,3,0,4,1,3,0,EOF
         ",
     );
 }
@@ -326,10 +344,10 @@ fn an_old_piece_noted_after_a_restart() {
 fn bytes_after_the_entries_stay() {
     let mut map = runs(MAP_BYTES, &[(0, 3, 2)]);
     let mut log = runs(LOG_BYTES, &[(0, 3, 2)]);
-    log[24..].fill(0xEE);
+    log[run_at(1)..].fill(0xEE);
     assert_eq!(note(&mut map, &mut log, 4, 1, 7, 5), 0);
     let mut expected = runs(LOG_BYTES, &[(0, 3, 2), (4, 4, 7)]);
-    expected[44..].fill(0xEE);
+    expected[run_at(2)..].fill(0xEE);
     assert!(log == expected);
     assert_eq!(restart(&mut map, &log), 0);
     assert!(map == runs(MAP_BYTES, &[(0, 3, 2), (4, 4, 7)]));

@@ -6,15 +6,12 @@
 mod both;
 mod runs;
 
-use gilboreth_host::model::locks::{encode, Answer};
+use gilboreth_host::model::locks::{encode, Answer, EVENTS_BYTES as EVENTS};
 use gilboreth_host::model::modes::{Mode, State};
 use gilboreth_host::model::serve::Message;
+use gilboreth_host::model::stripe::{LOG_BYTES as LOG, MAP_BYTES as MAP};
 use gilboreth_host::model::table::{Record, Table};
 use runs::runs;
-
-const EVENTS: usize = 11_268;
-const MAP: usize = 20_484;
-const LOG: usize = 40_964;
 
 /// A table of granted PR locks of client 0, with handles from 1.
 fn table(issued: u64, records: u64) -> Vec<u8> {

@@ -4,7 +4,7 @@ mod runs;
 mod tables;
 
 use gilboreth_host::model::locks::{decode, encode, TABLE_BYTES};
-use gilboreth_host::model::stripe::{decode_log, decode_map, LOG_BYTES, MAP_BYTES};
+use gilboreth_host::model::stripe::{decode_log, decode_map, run_at, LOG_BYTES, MAP_BYTES};
 use gilboreth_host::model::table::Table;
 use runs::runs;
 use tables::{table, with, SOUND, UNSOUND};
@@ -65,7 +65,7 @@ fn unsound_maps() {
     }
     let map = runs(MAP_BYTES, &[(0, 4, 1)]);
     assert_eq!(decode_map(&with(map.clone(), &[(0, 1_025)])), None);
-    assert_eq!(decode_map(&with(map.clone(), &[(24, 0x0100_0000)])), None);
+    assert_eq!(decode_map(&with(map.clone(), &[(run_at(1), 0x0100_0000)])), None);
     assert_eq!(decode_map(&with(map.clone(), &[(MAP_BYTES - 4, 1)])), None);
     assert_eq!(decode_map(&map[..MAP_BYTES - 1]), None);
     assert_eq!(decode_map(&[map, vec![0]].concat()), None);
@@ -81,7 +81,7 @@ fn sound_logs() {
         vec![(3, 3, 1); 2_048],
     ] {
         let mut log = runs(LOG_BYTES, &list);
-        log[4 + 20 * list.len()..].fill(0xEE);
+        log[run_at(list.len())..].fill(0xEE);
         let entries = decode_log(&log);
         assert_eq!(entries.map(|entries| entries.len()), Some(list.len()), "{list:?}");
     }

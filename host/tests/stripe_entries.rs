@@ -4,6 +4,7 @@ mod stripe_scenes;
 
 use gilboreth_host::beside::{finds_out, Beside};
 use gilboreth_host::calls::{Calls, LIBRARY};
+use gilboreth_host::model::stripe::run_at;
 use stripe_scenes::{cuts, damage, edges, limits, pieces};
 
 #[test]
@@ -160,7 +161,7 @@ fn wrong_versions() {
             Calls {
                 note: |map, log, first, length, number, image_length| {
                     let answer = (LIBRARY.note)(map, log, first, length, number, image_length);
-                    log[4 + 20 * log[3] as usize] = 0;
+                    log[run_at(log[3] as usize)] = 0;
                     answer
                 },
                 ..LIBRARY

@@ -6,16 +6,29 @@ use super::serve::{serve, Accepted, Event, Message};
 use super::table::{Record, Table, RECORDS, STRIPES};
 use super::xdr::{array, hyper, put_array, put_hyper, put_unsigned, unsigned, zero};
 
-/// Handles issued, the last numbers, then the array of records.
+/// Handles issued, the last numbers, then the array of records, whose count stands first.
 const NUMBERS_AT: usize = 4;
-const RECORDS_AT: usize = NUMBERS_AT + 4 * STRIPES;
-const RECORD_BYTES: usize = 40;
-const EVENT_BYTES: usize = 4 + RECORD_BYTES;
+pub const RECORDS_AT: usize = NUMBERS_AT + 4 * STRIPES;
+pub const RECORD_BYTES: usize = 40;
+/// An event is its kind and then its record.
+pub const EVENT_BYTES: usize = 4 + RECORD_BYTES;
 
 /// The exact length of a table.
 pub const TABLE_BYTES: usize = RECORDS_AT + 4 + RECORD_BYTES * RECORDS;
 /// The least length of an event buffer: at most one event for each record.
 pub const EVENTS_BYTES: usize = 4 + EVENT_BYTES * RECORDS;
+
+/// Where the last number of a stripe, and where a record stands in a table; where an event stands in
+/// an event buffer. The place after the last one is where they end.
+pub const fn number_at(stripe: usize) -> usize {
+    NUMBERS_AT + 4 * stripe
+}
+pub const fn record_at(place: usize) -> usize {
+    RECORDS_AT + 4 + RECORD_BYTES * place
+}
+pub const fn event_at(place: usize) -> usize {
+    4 + EVENT_BYTES * place
+}
 
 /// What a message answers.
 #[derive(Clone, Copy, Debug, PartialEq, Eq)]
@@ -75,7 +88,7 @@ pub fn decode(bytes: &[u8]) -> Option<Table> {
         return None;
     }
     let issued = unsigned(bytes, 0);
-    let numbers = std::array::from_fn(|stripe| unsigned(bytes, NUMBERS_AT + 4 * stripe));
+    let numbers = std::array::from_fn(|stripe| unsigned(bytes, number_at(stripe)));
     let (records, after) = array(&bytes[RECORDS_AT..], RECORD_BYTES, RECORDS, record)?;
     let table = Table { issued, numbers, records };
     (table.sound() && zero(after)).then_some(table)
@@ -86,7 +99,7 @@ pub fn encode(table: &Table) -> Vec<u8> {
     let mut bytes = vec![0; TABLE_BYTES];
     put_unsigned(&mut bytes, 0, table.issued);
     for (stripe, &number) in table.numbers.iter().enumerate() {
-        put_unsigned(&mut bytes, NUMBERS_AT + 4 * stripe, number);
+        put_unsigned(&mut bytes, number_at(stripe), number);
     }
     put_array(&mut bytes[RECORDS_AT..], RECORD_BYTES, &table.records, put_record);
     bytes

@@ -5,12 +5,17 @@ use super::runs::{map_of, numbers_over, sound_log, sound_map, Run, ENTRIES, RUNS
 use super::xdr::{array, hyper, put_array, put_hyper, put_unsigned, unsigned, zero};
 use super::{EOF, HIGHEST};
 
-const RUN_BYTES: usize = 20;
+pub const RUN_BYTES: usize = 20;
 
 /// The exact length of a map.
 pub const MAP_BYTES: usize = 4 + RUN_BYTES * RUNS;
 /// The exact length of a log.
 pub const LOG_BYTES: usize = 4 + RUN_BYTES * ENTRIES;
+
+/// Where a run stands in a map, and an entry in a log; past the last one, where they end.
+pub const fn run_at(place: usize) -> usize {
+    4 + RUN_BYTES * place
+}
 
 /// Appends the piece's entry to the log and raises the map's numbers to the piece's.
 pub fn note(
@@ -54,7 +59,7 @@ fn try_note(
     refuse(refusal::RUNS, raised.len() > RUNS)?;
     refuse(refusal::ENTRIES, count == ENTRIES)?;
     map.copy_from_slice(&encode_map(&raised));
-    put_run(&mut log[4 + RUN_BYTES * count..], &entry);
+    put_run(&mut log[run_at(count)..], &entry);
     put_unsigned(log, 0, count as u64 + 1);
     Ok(())
 }

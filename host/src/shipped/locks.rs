@@ -1,8 +1,8 @@
 //! The four messages: their refusals, their own change, and the settling of the table.
 
 use super::numbers::{partition, put_u32};
-use super::table::{Record, Table, ASKED, BW, CANCELING, GRANTED, NBW, PW, RECORD_BYTES, WAITING};
-use crate::model::locks::{Answer, EVENTS_BYTES};
+use super::table::{Record, Table, ASKED, BW, CANCELING, GRANTED, NBW, PW, WAITING};
+use crate::model::locks::{event_at, Answer, EVENTS_BYTES, EVENT_BYTES};
 use crate::model::refusal::{self, refuse, Refusal};
 use crate::model::table::{CLIENTS, RECORDS, STRIPES};
 use crate::model::{valid_range, EOF, HIGHEST};
@@ -161,9 +161,9 @@ struct Events<'a> {
 }
 
 impl Events<'_> {
-    /// An event is its kind, then the fields of its record.
+    /// An event is its kind, then its record.
     fn send(&mut self, kind: u32, record: &Record) {
-        let event = &mut self.buffer[4 + (4 + RECORD_BYTES) * self.count..][..4 + RECORD_BYTES];
+        let event = &mut self.buffer[event_at(self.count)..][..EVENT_BYTES];
         put_u32(event, 0, kind);
         record.put(&mut event[4..]);
         self.count += 1;

@@ -2,10 +2,9 @@
 
 use super::numbers::{put_u32, put_u64, u32_at, u64_at, zero};
 use crate::model::runs::{ENTRIES, RUNS};
-use crate::model::stripe::{LOG_BYTES, MAP_BYTES};
+pub use crate::model::stripe::run_at as offset;
+use crate::model::stripe::{LOG_BYTES, MAP_BYTES, RUN_BYTES};
 use crate::model::EOF;
-
-const RUN_BYTES: usize = 20;
 
 /// A stretch of bytes with one number; `end` is the byte after its last.
 #[derive(Clone, Copy)]
@@ -13,11 +12,6 @@ pub struct Run {
     pub first: u64,
     pub end: u64,
     pub number: u32,
-}
-
-/// The offset of a run in its map, or of an entry in its log.
-pub fn offset(place: usize) -> usize {
-    4 + RUN_BYTES * place
 }
 
 impl Run {

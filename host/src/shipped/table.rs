@@ -1,7 +1,7 @@
 //! The lock table's bytes, with its records read once: when it is sound, and how it changes.
 
 use super::numbers::{put_u32, put_u64, u32_at, u64_at, zero};
-use crate::model::locks::TABLE_BYTES;
+use crate::model::locks::{record_at, RECORDS_AT as COUNT_AT, RECORD_BYTES, TABLE_BYTES};
 use crate::model::table::{CLIENTS, RECORDS, STRIPES};
 use crate::model::valid_range;
 
@@ -14,10 +14,6 @@ pub const WAITING: u32 = 0;
 pub const GRANTED: u32 = 1;
 pub const ASKED: u32 = 2;
 pub const CANCELING: u32 = 3;
-
-const COUNT_AT: usize = 4 + 4 * STRIPES;
-const RECORDS_AT: usize = COUNT_AT + 4;
-pub const RECORD_BYTES: usize = 40;
 
 #[derive(Clone, Copy, Default)]
 pub struct Record {
@@ -116,7 +112,7 @@ impl Table<'_> {
 
     pub fn put(&mut self, place: usize, record: Record) {
         self.records[place] = record;
-        record.put(&mut self.bytes[RECORDS_AT + RECORD_BYTES * place..][..RECORD_BYTES]);
+        record.put(&mut self.bytes[record_at(place)..][..RECORD_BYTES]);
     }
 
     pub fn push(&mut self, record: Record) {
@@ -126,7 +122,7 @@ impl Table<'_> {
 
     pub fn remove(&mut self, place: usize) {
         self.records.copy_within(place + 1..self.count, place);
-        let (at, end) = (RECORDS_AT + RECORD_BYTES * place, RECORDS_AT + RECORD_BYTES * self.count);
+        let (at, end) = (record_at(place), record_at(self.count));
         self.bytes.copy_within(at + RECORD_BYTES..end, at);
         self.bytes[end - RECORD_BYTES..end].fill(0);
         self.resize(self.count - 1);
@@ -143,7 +139,7 @@ impl Table<'_> {
             return false;
         }
         self.count = u32_at(self.bytes, COUNT_AT) as usize;
-        let (records, after) = self.bytes[RECORDS_AT..].split_at(RECORD_BYTES * self.count);
+        let (records, after) = self.bytes[record_at(0)..].split_at(RECORD_BYTES * self.count);
         for (record, bytes) in self.records.iter_mut().zip(records.chunks_exact(RECORD_BYTES)) {
             *record = Record::read(bytes);
         }

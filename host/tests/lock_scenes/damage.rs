@@ -2,12 +2,12 @@
 
 use super::drawn;
 use crate::messages::message;
-use crate::tables::{table, with, SOUND, UNSOUND};
+use crate::tables::{table, with, END, SOUND, UNSOUND};
 use gilboreth_host::beside::Beside;
-use gilboreth_host::model::locks::{encode, EVENTS_BYTES, TABLE_BYTES};
+use gilboreth_host::model::locks::{encode, record_at, EVENTS_BYTES, TABLE_BYTES};
 use gilboreth_host::model::modes::{Mode, State};
 use gilboreth_host::model::serve::Message;
-use gilboreth_host::model::table::{Record, Table};
+use gilboreth_host::model::table::{Record, Table, RECORDS};
 use gilboreth_host::random::{for_seeds, Random};
 use std::ops::Range;
 
@@ -37,7 +37,7 @@ pub fn rules(beside: &mut Beside) {
 /// Each bit up to the end of the records and a little further, one at a time.
 pub fn each_bit(beside: &mut Beside) {
     let mut events = vec![0xEE; EVENTS_BYTES];
-    for bit in 0..8 * 320 {
+    for bit in 0..8 * (END + 8) {
         for message in MESSAGES {
             let mut table = table();
             table[bit / 8] ^= 1 << (bit % 8);
@@ -51,7 +51,7 @@ pub fn each_byte_after(beside: &mut Beside) {
     let mut random = Random::new(0);
     let mut events = vec![0xEE; EVENTS_BYTES];
     let mut table = table();
-    for at in 312..TABLE_BYTES {
+    for at in END..TABLE_BYTES {
         table[at] = 1 << random.below(8);
         let message = random.pick(&MESSAGES);
         assert_eq!(beside.serve(&mut table, &mut events, message).refusal, 2, "byte {at}");
@@ -63,7 +63,7 @@ pub fn each_byte_after(beside: &mut Beside) {
 pub fn flips(beside: &mut Beside, seeds: Range<u64>) {
     for_seeds(seeds, |random| {
         let table = drawn::table(random, 12, 2, 24);
-        let used = 72 + 40 * table.records.len() as u64;
+        let used = record_at(table.records.len()) as u64;
         let mut events = vec![0xEE; EVENTS_BYTES];
         for _ in 0..16 {
             let mut bytes = encode(&table);
@@ -114,10 +114,10 @@ pub fn pairs(beside: &mut Beside, seeds: Range<u64>) {
 pub fn each_record(beside: &mut Beside) {
     let mut full = vec![0; TABLE_BYTES];
     let mut events = vec![0xEE; EVENTS_BYTES];
-    for _ in 0..256 {
+    for _ in 0..RECORDS {
         beside.serve(&mut full, &mut events, MESSAGES[0]);
     }
-    for client_at in (0..256).map(|place| 72 + 40 * place + 7) {
+    for client_at in (0..RECORDS).map(|place| record_at(place) + 7) {
         full[client_at] += 64;
         let answer = beside.serve(&mut full, &mut events, MESSAGES[3]);
         assert_eq!(answer.refusal, 2, "byte {client_at}");

@@ -1,9 +1,9 @@
 //! Buffers one byte short and one long; numbers, and the fields of a table, at their limits, one past
 //! and far off.
 
-use crate::tables::{table, with};
+use crate::tables::{table, with, END, RECORDS};
 use gilboreth_host::beside::Beside;
-use gilboreth_host::model::locks::{EVENTS_BYTES, TABLE_BYTES};
+use gilboreth_host::model::locks::{event_at, record_at, EVENTS_BYTES, RECORD_BYTES, TABLE_BYTES};
 use gilboreth_host::model::serve::Message;
 use gilboreth_host::model::{EOF, HIGHEST};
 
@@ -48,16 +48,16 @@ fn naming(client: u64, handle: u64) -> [Message; 3] {
 pub fn fields(beside: &mut Beside) {
     let integers = [0, 1, 2, 3, 4, 5, 6, 7, 8, 15, 16, 63, 64, 255, 256, 257, 0x7FFF_FFFF];
     let mut tables = Vec::new();
-    for at in (0..312).step_by(4) {
+    for at in (0..END).step_by(4) {
         for integer in integers.into_iter().chain([0x8000_0000, u32::MAX - 1, u32::MAX]) {
             tables.push(with(table(), &[(at, integer)]));
         }
     }
-    for record_at in (72..312).step_by(40) {
+    for at in (0..RECORDS).map(record_at) {
         for (first, last) in BYTES.into_iter().flat_map(|first| BYTES.map(|last| (first, last))) {
             let mut table = table();
-            table[record_at + 24..record_at + 32].copy_from_slice(&first.to_be_bytes());
-            table[record_at + 32..record_at + 40].copy_from_slice(&last.to_be_bytes());
+            table[at + 24..at + 32].copy_from_slice(&first.to_be_bytes());
+            table[at + 32..at + RECORD_BYTES].copy_from_slice(&last.to_be_bytes());
             tables.push(table);
         }
     }
@@ -72,8 +72,10 @@ pub fn fields(beside: &mut Beside) {
 
 /// Tables and event buffers of other lengths. Bytes after the events stay in a longer buffer.
 pub fn lengths(beside: &mut Beside) {
-    let table_lengths = [0, 3, 4, 72, TABLE_BYTES - 1, TABLE_BYTES, TABLE_BYTES + 1, EVENTS_BYTES];
-    let event_lengths = [0, 3, 4, 48, EVENTS_BYTES - 1, EVENTS_BYTES, EVENTS_BYTES + 1, 20_000];
+    let table_lengths =
+        [0, 3, 4, record_at(0), TABLE_BYTES - 1, TABLE_BYTES, TABLE_BYTES + 1, EVENTS_BYTES];
+    let event_lengths =
+        [0, 3, 4, event_at(1), EVENTS_BYTES - 1, EVENTS_BYTES, EVENTS_BYTES + 1, 20_000];
     let request = |client| Message::Request { client, stripe: 0, mode: 2, first: 0, last: 9 };
     let messages = [naming(5, 4), naming(64, 0), [request(5), request(63), request(64)]].concat();
     for table_length in table_lengths {

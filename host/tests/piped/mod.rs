@@ -1,8 +1,6 @@
 //! The line program as it was proved and built, run in a process of its own.
 
 use std::io::{Read, Write};
-use std::os::unix::io::OwnedFd;
-use std::os::unix::net::UnixDatagram;
 use std::process::{Child, Command, Stdio};
 use std::thread;
 
@@ -20,19 +18,6 @@ pub fn written(input: &[u8]) -> Vec<u8> {
     let output = finished(child);
     writer.join().unwrap();
     output
-}
-
-/// What the program writes for an input whose every piece comes in one read. A read of a datagram
-/// takes just that datagram, and an empty one is the end of the input.
-pub fn written_in_pieces(pieces: &[&[u8]]) -> Vec<u8> {
-    let (ours, theirs) = UnixDatagram::pair().unwrap();
-    let theirs = Stdio::from(OwnedFd::from(theirs));
-    let child = program().stdin(theirs).stdout(Stdio::piped()).spawn().unwrap();
-    for piece in pieces.iter().filter(|piece| !piece.is_empty()) {
-        ours.send(piece).unwrap();
-    }
-    ours.send(&[]).unwrap();
-    finished(child)
 }
 
 /// All that the program still writes, once it has ended well.

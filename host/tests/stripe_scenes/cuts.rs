@@ -6,7 +6,7 @@
 use super::{apart, drawn};
 use gilboreth_host::beside::Beside;
 use gilboreth_host::model::runs::{Run, ENTRIES, RUNS};
-use gilboreth_host::model::stripe::{decode_log, decode_map, LOG_BYTES, MAP_BYTES};
+use gilboreth_host::model::stripe::{decode_log, decode_map, run_at, LOG_BYTES, MAP_BYTES};
 use gilboreth_host::random::{for_seeds, Random};
 use std::ops::{Range, RangeInclusive};
 
@@ -137,7 +137,7 @@ impl Stripe<'_> {
     }
 
     fn end_of_entries(&self) -> usize {
-        4 + 20 * self.noted.len()
+        run_at(self.noted.len())
     }
 
     /// After a cut note the bytes past the entries are anything.

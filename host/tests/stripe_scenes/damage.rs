@@ -2,8 +2,8 @@
 
 use super::{apart, drawn};
 use gilboreth_host::beside::Beside;
-use gilboreth_host::model::runs::map_of;
-use gilboreth_host::model::stripe::{encode_log, encode_map, MAP_BYTES};
+use gilboreth_host::model::runs::{map_of, ENTRIES, RUNS};
+use gilboreth_host::model::stripe::{encode_log, encode_map, run_at, MAP_BYTES};
 use gilboreth_host::random::{for_seeds, Random};
 use std::ops::Range;
 
@@ -14,9 +14,9 @@ pub fn flips(beside: &mut Beside, seeds: Range<u64>) {
         let entries = drawn(random, 8, 40, 12, 3);
         for _ in 0..16 {
             let (mut map, mut log) = (encode_map(&runs), encode_log(&entries));
-            let used = 4 + 20 * runs.len();
+            let used = run_at(runs.len());
             let (damaged, used) =
-                if random.once_in(2) { (&mut map, used) } else { (&mut log, 164) };
+                if random.once_in(2) { (&mut map, used) } else { (&mut log, run_at(8)) };
             for _ in 0..1 + random.below(3) {
                 flip(random, damaged, used);
             }
@@ -58,7 +58,7 @@ pub fn each_byte_after(beside: &mut Beside) {
     let mut random = Random::new(0);
     let runs = map_of(&drawn(&mut random, 6, 40, 12, 3));
     let (mut map, mut log) = (encode_map(&runs), encode_log(&runs));
-    for at in 4 + 20 * runs.len()..MAP_BYTES {
+    for at in run_at(runs.len())..MAP_BYTES {
         map[at] = 1 << random.below(8);
         assert_eq!(beside.note(&mut map, &mut log, 3, 5, 3, 40), 12, "byte {at}");
         assert_eq!(beside.write(&map, &mut [0; 40], 3, b"piece", 3), 12, "byte {at}");
@@ -68,14 +68,16 @@ pub fn each_byte_after(beside: &mut Beside) {
 
 /// Each run of a full map and each entry of a full log, one at a time, with number 0.
 pub fn each_run(beside: &mut Beside) {
-    let (mut map, mut log) = (encode_map(&apart(1_024, 1)), encode_log(&apart(2_048, 1)));
-    for number_at in (0..1_024).map(|place| 23 + 20 * place) {
+    let last_byte = |place: usize| run_at(place + 1) - 1; // of the number
+    let (mut map, mut log) =
+        (encode_map(&apart(RUNS as u64, 1)), encode_log(&apart(ENTRIES as u64, 1)));
+    for number_at in (0..RUNS).map(last_byte) {
         map[number_at] = 0;
         assert_eq!(beside.note(&mut map, &mut log, 0, 1, 1, 1), 12, "byte {number_at}");
         assert_eq!(beside.write(&map, &mut [0], 0, b"A", 1), 12, "byte {number_at}");
         map[number_at] = 1;
     }
-    for number_at in (0..2_048).map(|place| 23 + 20 * place) {
+    for number_at in (0..ENTRIES).map(last_byte) {
         log[number_at] = 0;
         assert_eq!(beside.note(&mut map, &mut log, 0, 1, 1, 1), 13, "byte {number_at}");
         assert_eq!(beside.restart(&mut map, &log), 13, "byte {number_at}");

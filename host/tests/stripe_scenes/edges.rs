@@ -4,7 +4,7 @@
 use super::apart;
 use gilboreth_host::beside::Beside;
 use gilboreth_host::model::runs::Run;
-use gilboreth_host::model::stripe::{encode_log, encode_map, LOG_BYTES, MAP_BYTES};
+use gilboreth_host::model::stripe::{encode_log, encode_map, run_at, LOG_BYTES, MAP_BYTES};
 use gilboreth_host::model::{EOF, HIGHEST};
 
 const MOST: u64 = u64::MAX;
@@ -78,8 +78,8 @@ fn judged(beside: &mut Beside, map: &[u8], log: &[u8]) {
 
 /// Maps and logs of every wrong length near the right one, each with the other right and wrong.
 pub fn lengths(beside: &mut Beside) {
-    let map_lengths = [0, 3, 4, 24, MAP_BYTES - 1, MAP_BYTES, MAP_BYTES + 1, LOG_BYTES];
-    let log_lengths = [0, 3, 4, 24, LOG_BYTES - 1, LOG_BYTES, LOG_BYTES + 1, MAP_BYTES];
+    let map_lengths = [0, 3, 4, run_at(1), MAP_BYTES - 1, MAP_BYTES, MAP_BYTES + 1, LOG_BYTES];
+    let log_lengths = [0, 3, 4, run_at(1), LOG_BYTES - 1, LOG_BYTES, LOG_BYTES + 1, MAP_BYTES];
     for list in lists() {
         for (map_length, log_length) in choices(&map_lengths, &log_lengths) {
             let (mut map, mut log) = (encode_map(&list), encode_log(&list));

@@ -3,7 +3,7 @@
 use super::drawn;
 use gilboreth_host::beside::Beside;
 use gilboreth_host::model::runs::map_of;
-use gilboreth_host::model::stripe::{encode_log, encode_map};
+use gilboreth_host::model::stripe::{encode_log, encode_map, run_at};
 use gilboreth_host::random::{for_seeds, Random};
 use std::ops::Range;
 
@@ -30,7 +30,7 @@ fn play(beside: &mut Beside, random: &mut Random, image_length: u64, longest: u6
     let mut map = encode_map(&map_of(&drawn(random, count, image_length, longest, 6)));
     let count = random.below(12);
     let mut log = encode_log(&drawn(random, count, image_length, longest, 6));
-    random.fill(&mut log[4 + 20 * count as usize..300]);
+    random.fill(&mut log[run_at(count as usize)..300]);
     let mut image = vec![0; image_length as usize];
     random.fill(&mut image);
     let mut bytes = vec![0; longest as usize];

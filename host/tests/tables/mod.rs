@@ -1,6 +1,6 @@
 //! A sound table, and the changes of its integers that break one rule of soundness or just don't.
 
-use gilboreth_host::model::locks::{encode, TABLE_BYTES};
+use gilboreth_host::model::locks::{encode, number_at, record_at, RECORDS_AT, TABLE_BYTES};
 use gilboreth_host::model::modes::{Mode, State};
 use gilboreth_host::model::table::{Record, Table};
 
@@ -34,7 +34,7 @@ pub fn table() -> Vec<u8> {
 /// The offset of a record's integer: handle, client, stripe, mode, state, number,
 /// then the high and low halves of first and last.
 const fn at(record: usize, integer: usize) -> usize {
-    72 + 40 * record + 4 * integer
+    record_at(record) + 4 * integer
 }
 
 const HANDLE: usize = 0;
@@ -46,6 +46,10 @@ const NUMBER: usize = 5;
 const FIRST: usize = 7;
 const LAST_HIGH: usize = 8;
 const LAST: usize = 9;
+
+/// How many records it has, and where their bytes end.
+pub const RECORDS: usize = 6;
+pub const END: usize = record_at(RECORDS);
 
 /// The bytes with other integers at some offsets.
 pub fn with(mut bytes: Vec<u8>, changes: &[(usize, u32)]) -> Vec<u8> {
@@ -65,13 +69,13 @@ pub const SOUND: [Change; 13] = [
     ("a range up to EOF", &[(at(3, LAST_HIGH), 0x7FFF_FFFF), (at(3, LAST), 0xFFFF_FFFF)]),
     ("a range of one byte", &[(at(3, FIRST), 45)]),
     ("the stripe's last number", &[(at(1, NUMBER), 3)]),
-    ("last number and one waiting write make handles issued", &[(4, 6)]),
-    ("the last number of a stripe without records", &[(64, 7)]),
+    ("last number and one waiting write make handles issued", &[(number_at(0), 6)]),
+    ("the last number of a stripe without records", &[(number_at(15), 7)]),
     ("a gap in the handles", &[(at(4, HANDLE), 6)]),
     ("touching locks", &[(at(1, FIRST), 10), (at(1, MODE), 4)]),
     ("an NBW on a canceling NBW", &[(at(1, MODE), 2), (at(1, STATE), 3)]),
     ("a waiting PW over anything", &[(at(4, MODE), 4)]),
-    ("a waiting PR doesn't count as a write", &[(at(4, MODE), 1), (4, 7)]),
+    ("a waiting PR doesn't count as a write", &[(at(4, MODE), 1), (number_at(0), 7)]),
 ];
 
 pub const UNSOUND: [Change; 32] = [
@@ -91,9 +95,12 @@ pub const UNSOUND: [Change; 32] = [
     ("equal numbers of one stripe", &[(at(1, NUMBER), 1), (at(1, FIRST), 10)]),
     ("a PR with a number", &[(at(2, NUMBER), 1)]),
     ("a waiting request with a number", &[(at(4, NUMBER), 3)]),
-    ("last number and one waiting write above handles issued", &[(4, 7)]),
-    ("a last number above handles issued", &[(64, 8)]),
-    ("last number and one waiting write make 2^32", &[(0, 0xFFFF_FFFF), (4, 0xFFFF_FFFF)]),
+    ("last number and one waiting write above handles issued", &[(number_at(0), 7)]),
+    ("a last number above handles issued", &[(number_at(15), 8)]),
+    (
+        "last number and one waiting write make 2^32",
+        &[(0, 0xFFFF_FFFF), (number_at(0), 0xFFFF_FFFF)],
+    ),
     ("the smaller number isn't canceling", &[(at(0, STATE), 2)]),
     ("the smaller number is a canceling BW", &[(at(0, MODE), 3)]),
     ("the smaller number is a canceling PW", &[(at(0, MODE), 4)]),
@@ -103,8 +110,8 @@ pub const UNSOUND: [Change; 32] = [
     ("one common byte", &[(at(1, FIRST), 9), (at(1, MODE), 4)]),
     ("a PR on a BW", &[(at(2, FIRST), 20)]),
     ("a PR on a canceling BW", &[(at(2, FIRST), 20), (at(1, STATE), 3)]),
-    ("257 records", &[(68, 257)]),
-    ("2^32 - 1 records", &[(68, 0xFFFF_FFFF)]),
-    ("a byte after the records", &[(at(6, HANDLE), 0x0100_0000)]),
+    ("257 records", &[(RECORDS_AT, 257)]),
+    ("2^32 - 1 records", &[(RECORDS_AT, 0xFFFF_FFFF)]),
+    ("a byte after the records", &[(END, 0x0100_0000)]),
     ("the last byte", &[(TABLE_BYTES - 4, 1)]),
 ];

@@ -2,12 +2,13 @@
 //! then the answer and the events that must come back, with spaces between.
 
 use crate::both::serve;
+use crate::piped::written;
 use gilboreth_host::model::line::line;
-use gilboreth_host::model::locks::{Answer, EVENTS_BYTES, TABLE_BYTES};
+use gilboreth_host::model::locks::{event_at, Answer, EVENTS_BYTES, EVENT_BYTES, TABLE_BYTES};
 use gilboreth_host::model::serve::Message;
 
 /// Plays a transcript from the empty table, and answers the table's bytes at its end.
-/// The line program must give the same lines.
+/// The line program must give the same lines, the model's and the one that was proved and built.
 pub fn play(transcript: &str) -> Vec<u8> {
     let mut table = vec![0; TABLE_BYTES];
     play_on(&mut table, transcript);
@@ -17,6 +18,7 @@ pub fn play(transcript: &str) -> Vec<u8> {
         output += &call[1..].iter().map(|line| format!("{line}\r\n")).collect::<String>();
     }
     assert_eq!(String::from_utf8(line(input.as_bytes())).unwrap(), output);
+    assert_eq!(String::from_utf8(written(input.as_bytes())).unwrap(), output);
     table
 }
 
@@ -52,10 +54,10 @@ fn served(table: &mut [u8], message: &str) -> Vec<String> {
     let Answer { refusal, handle, events } = serve(table, &mut buffer, message);
     let mut lines = vec![format!("=,{refusal},{handle}")];
     if refusal == 0 {
-        let end = 4 + 44 * events as usize;
+        let end = event_at(events as usize);
         assert_eq!(buffer[..4], (events as u32).to_be_bytes());
         assert_eq!(buffer[end..], old_buffer[end..]);
-        lines.extend(buffer[4..end].chunks(44).map(event));
+        lines.extend(buffer[4..end].chunks(EVENT_BYTES).map(event));
     } else {
         assert_eq!(events, 0);
         assert!(table == old_table && buffer == old_buffer);
@@ -63,15 +65,17 @@ fn served(table: &mut [u8], message: &str) -> Vec<String> {
     lines
 }
 
-/// One event as the line program writes it: seven integers, then two hypers.
+/// One event as the line program writes it: its kind, and then its record, six integers and two hypers.
 fn event(bytes: &[u8]) -> String {
-    let integer = |at: usize| u32::from_be_bytes(bytes[at..at + 4].try_into().unwrap());
-    let hyper = |at: usize| u64::from_be_bytes(bytes[at..at + 8].try_into().unwrap());
-    let letter = match integer(0) {
+    let integer =
+        |bytes: &[u8], at: usize| u32::from_be_bytes(bytes[at..at + 4].try_into().unwrap());
+    let letter = match integer(bytes, 0) {
         1 => 'G',
         2 => 'V',
         kind => panic!("no such kind: {kind}"),
     };
-    let integers: String = (1..7).map(|place| format!(",{}", integer(4 * place))).collect();
-    format!("{letter}{integers},{},{}", hyper(28), hyper(36))
+    let record = &bytes[4..];
+    let hyper = |at: usize| u64::from_be_bytes(record[at..at + 8].try_into().unwrap());
+    let integers: String = (0..6).map(|place| format!(",{}", integer(record, 4 * place))).collect();
+    format!("{letter}{integers},{},{}", hyper(24), hyper(32))
 }
