@@ -1,8 +1,8 @@
 /* gilboreth.h: the lock table of one server, and the note-and-write path of one stripe.
  *
  * Link with libgilboreth.a (x86-64). `pkg-config --cflags --libs gilboreth` gives the flags.
- * The code of the seven calls is proved. For every input its contracts allow one answer, and one later
- * content of each buffer.
+ * The code of its calls is proved. For every input their contracts allow one answer, and one later content
+ * of each buffer.
  *
  * In this file:
  *   1. Rules that no code can check. Read these first.
@@ -96,7 +96,7 @@ extern "C" {
 #define GIL_LOG_BYTES 40964    /* array of entries; bytes after it may be anything */
 
 #define GIL_BYTES_PER_RECORD 40 /* handle, client, stripe, mode, state, number; first, last: 8 bytes each */
-#define GIL_BYTES_PER_EVENT 44  /* kind, and then as a record */
+#define GIL_BYTES_PER_EVENT (4 + GIL_BYTES_PER_RECORD) /* kind, and then the record */
 #define GIL_BYTES_PER_RUN 20    /* first, last: 8 bytes each; number. An entry of the log has the same shape. */
 
 #define GIL_MAX_CLIENTS 64   /* clients are 0 to 63 */
@@ -149,14 +149,15 @@ extern "C" {
 #define GIL_REFUSED_ENTRIES 17      /* log holds 2,048 entries */
 #define GIL_REFUSED_SMALLER 18      /* some byte of the piece has a smaller number in the map */
 
-/* Says what happened, and what to do about it. The text is constant and never null. */
+/* Says what happened, and what to do about it. The text is constant and never null. The Rust library has its
+ * sentences from here. */
 static inline const char *gil_refusal_text(uint64_t refusal)
 {
     switch (refusal) {
     case GIL_ACCEPTED:
         return "Accepted.";
     case GIL_REFUSED_EVENT_BUFFER:
-        return "The event buffer is too short: lend 11,268 bytes (GIL_EVENTS_BYTES).";
+        return "The event buffer is too short: lend 11,268 bytes.";
     case GIL_REFUSED_TABLE:
         return "The table has another length, or is not sound: lend the 10,312 bytes that the last call left; "
                "all zeros is the empty table.";
@@ -167,8 +168,7 @@ static inline const char *gil_refusal_text(uint64_t refusal)
     case GIL_REFUSED_MODE:
         return "The mode is unknown: ask for 1 PR, 2 NBW, 3 BW or 4 PW.";
     case GIL_REFUSED_RANGE:
-        return "The range is not valid: ask for a first byte that is at most the last, and a last byte of at most "
-               "GIL_EOF.";
+        return "The range is not valid: ask for a first byte that is at most the last, and a last byte of at most EOF.";
     case GIL_REFUSED_HANDLES:
         return "All 4,294,967,295 handles are issued: let every client flush and release, then start every log "
                "again, and then the table.";
@@ -182,8 +182,7 @@ static inline const char *gil_refusal_text(uint64_t refusal)
         return "The record is not in the state for this: acknowledge once, after a revocation; downgrade only a "
                "canceling BW or PW.";
     case GIL_REFUSED_MAP:
-        return "The map has another length, or is not sound: lend 20,484 bytes, and fill them from the log by "
-               "gil_restart.";
+        return "The map has another length, or is not sound: lend 20,484 bytes, and fill them from the log by a restart.";
     case GIL_REFUSED_LOG:
         return "The log has another length, or is not sound: lend its 40,964 bytes as stored; if those are damaged, "
                "stop serving this stripe and bring back the log.";
@@ -234,6 +233,11 @@ static inline uint32_t gil_count(const uint8_t *array)
  * call, and every lock that a waiting request then wants is asked back. What follows for the clients stands
  * in the event buffer: first grants in rising handle, then revocations in rising handle. Send each event to
  * its client, in this order.
+ *
+ * Nobody starves. On a table that started empty a request waits only for records that were there before it,
+ * and none that comes later is granted in its way. It is granted in the very call in which the last of those
+ * that stand in its way goes. So once each client releases what it is asked for, every request is granted;
+ * the request with the smallest handle never waits.
  */
 
 /* What a message answers. If refusal is not 0, the other two are 0. */
@@ -243,7 +247,7 @@ typedef struct {
     uint64_t events;  /* how many events stand in the event buffer */
 } gil_answer;
 
-/* What a client is told.
+/* What a client is told: the kind of the event, and then the record as the call leaves it.
  *
  * A grant: the client holds the lock from now on, over first to last, which may be more than it asked for.
  * If its state is GIL_STATE_CANCELING, others wait for it already: no revocation and no acknowledge follow,
@@ -269,17 +273,18 @@ typedef struct {
 /* Reads event i of an event buffer. i is below the answer's events. */
 static inline gil_event gil_event_at(const uint8_t *events, size_t i)
 {
-    const uint8_t *p = events + 4 + GIL_BYTES_PER_EVENT * i;
+    const uint8_t *event = events + 4 + GIL_BYTES_PER_EVENT * i;
+    const uint8_t *record = event + 4;
     gil_event e;
-    e.kind = gil_u32_at(p);
-    e.handle = gil_u32_at(p + 4);
-    e.client = gil_u32_at(p + 8);
-    e.stripe = gil_u32_at(p + 12);
-    e.mode = gil_u32_at(p + 16);
-    e.state = gil_u32_at(p + 20);
-    e.number = gil_u32_at(p + 24);
-    e.first = gil_u64_at(p + 28);
-    e.last = gil_u64_at(p + 36);
+    e.kind = gil_u32_at(event);
+    e.handle = gil_u32_at(record);
+    e.client = gil_u32_at(record + 4);
+    e.stripe = gil_u32_at(record + 8);
+    e.mode = gil_u32_at(record + 12);
+    e.state = gil_u32_at(record + 16);
+    e.number = gil_u32_at(record + 20);
+    e.first = gil_u64_at(record + 24);
+    e.last = gil_u64_at(record + 32);
     return e;
 }
 

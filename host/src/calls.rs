@@ -1,4 +1,4 @@
-//! The seven calls as one value, so that a test or a measurement is written once for all who have
+//! The calls as one value, so that a test or a measurement is written once for all who have
 //! them: the model, the proved library, and the shipped Rust.
 
 use crate::model::locks::Answer;

@@ -1,4 +1,4 @@
-//! The seven entries of the proved library on slices and numbers, as include/gilboreth.h has them.
+//! The entries of the proved library on slices and numbers, as include/gilboreth.h has them.
 //!
 //! They are safe to call. C is asked for buffers that don't overlap, and for no null pointer but at
 //! length 0. A slice is never null, and where two slices of one call overlap both are only read.

@@ -45,7 +45,7 @@
 //! # What is where
 //!
 //! The library for other programs is what stands at the top of this crate. [`entries`] is the same
-//! seven calls on plain slices and numbers, for buffers of any length.
+//! calls on plain slices and numbers, for buffers of any length.
 //!
 //! The rest is here to judge the library, and no program needs it:
 //!
@@ -53,7 +53,7 @@
 //!   stands above, so that an error would have to be made twice to pass.
 //! - [`shipped`] is the same calls as an engineer would ship them in plain Rust, the yardstick of the
 //!   benchmark. It takes its sizes and refusal numbers from the model.
-//! - [`calls`], [`beside`] and [`random`] are what tests and benchmark share: the seven calls as one
+//! - [`calls`], [`beside`] and [`random`] are what tests and benchmark share: the calls as one
 //!   value, a call beside the model's, and seeds.
 
 pub mod beside;

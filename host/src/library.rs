@@ -1,4 +1,4 @@
-//! The library for Rust programs: the seven entries with types over their bytes and numbers.
+//! The library for Rust programs: the entries with types over their bytes and numbers.
 //!
 //! `table` serves the four messages, `map` notes, writes and restarts; `log`, `records`, `runs` and
 //! `events` read what the entries leave. Nothing here decides anything: each call is one call of

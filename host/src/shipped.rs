@@ -1,4 +1,4 @@
-//! The seven calls as one would ship them in plain Rust: the yardstick for the library's speed.
+//! The calls as one would ship them in plain Rust: the yardstick for the library's speed.
 //!
 //! Every call tests the lent buffers as the rules ask and changes them in place. Only restart
 //! allocates, to sort the entries; a message reads the records once, into an array on the stack.

@@ -2,7 +2,7 @@
 
 mod messages;
 
-use gilboreth_host::model::locks::{decode, EVENTS_BYTES, TABLE_BYTES};
+use gilboreth_host::model::locks::{decode, record_at, EVENTS_BYTES, TABLE_BYTES};
 use gilboreth_host::model::serve::{serve, Message};
 use gilboreth_host::model::stripe::{decode_log, decode_map, LOG_BYTES, MAP_BYTES};
 use gilboreth_host::model::{self, modes, runs, stripe, table};
@@ -28,8 +28,8 @@ fn refusals() {
         assert_eq!(refusal.number(), number);
         assert_eq!(Refusal::of_number(number), Some(refusal));
         let text = refusal.text();
-        assert!(text.contains("; ") && !text.contains("  "), "{text}");
-        assert_eq!(refusal.to_string(), format!("refusal {number}: {text}"));
+        assert!(text.contains(": ") && text.ends_with('.') && !text.contains("  "), "{text}");
+        assert_eq!(refusal.to_string(), format!("refusal {number}. {text}"));
     }
     assert_eq!((Refusal::of_number(0), Refusal::of_number(19)), (None, None));
 }
@@ -190,7 +190,7 @@ fn records_without_meaning() {
         table.request(&mut events, 0, 0, Mode::PR, 0, 9).unwrap();
     }
     assert_eq!(table.records().count(), 3);
-    table.bytes_mut()[72 + 40 + 15] = 5;
+    table.bytes_mut()[record_at(1) + 15] = 5;
     assert_eq!(table.records().count(), 1);
 }
 

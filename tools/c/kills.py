@@ -37,6 +37,7 @@ TURNS = 14  # starts of the daemon in a run; in all but the first it is killed
 LINES = 60  # commands that wait for a daemon that is going to be killed
 LETTERS = bytes(range(33, 123)) * (LENGTH // 90 + 2)
 WRONG = 10
+COUNT, ENTRY = struct.Struct(">I"), struct.Struct(">QQI")  # the log is a count, and entries of first, last, number
 AMID_BYTES = "amid the bytes of a write"
 PLACES = [
     "at a restart",
@@ -58,7 +59,7 @@ class Piece:
         self.first, self.end, self.number = first, first + length, number
         # Numbers stay below 90. So pieces of equal number agree wherever they overlap, and others differ in every byte.
         self.bytes = LETTERS[number + first : number + self.end]
-        self.entry = struct.pack(">QQI", first, self.end - 1, number)
+        self.entry = ENTRY.pack(first, self.end - 1, number)
         self.lines = {
             "note": b"note %d %d %d\n" % (first, length, number),
             "write": b"write %d %d %s\n" % (first, number, self.bytes),
@@ -179,8 +180,9 @@ class Run:
     def look(self, name, piece):
         """The daemon has ended, perhaps amid this command. The log says whether its note was cut."""
         log, image, stripe = self.stored("log"), self.stored("image"), self.stripe
-        count = int.from_bytes(log[:4], "big")
-        entry = slice(4 + 20 * count, 24 + 20 * count)
+        count = COUNT.unpack_from(log)[0]
+        end = COUNT.size + ENTRY.size * count
+        entry = slice(end, end + ENTRY.size)
         writing = name == "write" and not stripe.refuses(piece)
         if name == "restart":
             self.seen["at a restart"] += 1
@@ -203,7 +205,7 @@ class Run:
         self.found = log
         if not self.only_the_end:
             entries = b"".join(piece.entry for piece in stripe.noted)
-            if count != len(stripe.noted) or log[4 : 4 + len(entries)] != entries:
+            if count != len(stripe.noted) or log[COUNT.size : COUNT.size + len(entries)] != entries:
                 raise Wrong(f"the log has not the {len(stripe.noted)} entries of the noted pieces")
             compare("when the daemon had ended", image, stripe.image)
         stripe.image[:] = image

@@ -16,25 +16,27 @@ from collections import namedtuple
 EOF = 9_223_372_036_854_775_807
 PR, NBW, BW, PW = 1, 2, 3, 4
 WAITING, GRANTED, ASKED, CANCELING = 0, 1, 2, 3
+GRANT, REVOCATION = 1, 2
 TABLE, EVENTS, MAP, LOG = 10_312, 11_268, 20_484, 40_964
 
 Record = namedtuple("Record", "handle client stripe mode state number first last")
-Event = namedtuple("Event", "kind handle client stripe mode state number first last")
+Event = namedtuple("Event", "kind record")
 Run = namedtuple("Run", "first last number")
 Table = namedtuple("Table", "issued lasts records")
 
 
-# The layouts, as document 01 has them: each structure is its fields in order, each field a uint or a uhyper.
-LAYOUTS = {Record: "uuuuuuhh", Event: "uuuuuuuhh", Run: "hhu"}
+# The layouts, as document 01 has them: each structure is its fields in order, each field a uint, a uhyper or a structure.
+LAYOUTS = {Record: "uuuuuuhh", Event: ("u", Record), Run: "hhu"}
 
 
 def pack(packer, item):
     for kind, value in zip(LAYOUTS[type(item)], item):
-        (packer.pack_uint if kind == "u" else packer.pack_uhyper)(value)
+        {"u": packer.pack_uint, "h": packer.pack_uhyper}.get(kind, lambda inner: pack(packer, inner))(value)
 
 
 def unpack(unpacker, kind):
-    return kind(*((unpacker.unpack_uint if k == "u" else unpacker.unpack_uhyper)() for k in LAYOUTS[kind]))
+    of = {"u": unpacker.unpack_uint, "h": unpacker.unpack_uhyper}
+    return kind(*(of[field]() if field in of else unpack(unpacker, field) for field in LAYOUTS[kind]))
 
 
 def encode(items):
@@ -118,36 +120,41 @@ class Messages:
         same("the bytes after the events", data[end:], before[end:EVENTS])
         records = {record.handle: record for record in self.table.records}
         for event in events:
-            same("an event beside its record", tuple(event[1:]), tuple(records[event.handle]))
+            same("an event beside its record", event.record, records[event.record.handle])
         return refusal, handle, events
+
+
+NAMES = {"R": "request", "A": "acknowledge", "D": "downgrade", "F": "release"}
+
+
+def event_of(line):
+    """An event as the line program writes it."""
+    kind, *numbers = line.split(",")
+    return Event({"G": GRANT, "V": REVOCATION}[kind], Record(*(int(number) for number in numbers)))
 
 
 def examples(caller):
     """Document 01's examples P1 to P4, from tables that xdrlib encoded."""
     p1 = Messages(caller)
-    for words, answer in [
-        ("request 0 0 2 0 20", (0, 1, [Event(1, 1, 0, 0, NBW, GRANTED, 1, 0, EOF)])),
-        ("request 1 0 2 10 30", (0, 2, [Event(2, 1, 0, 0, NBW, ASKED, 1, 0, EOF)])),
-        ("acknowledge 0 1", (0, 1, [Event(1, 2, 1, 0, NBW, GRANTED, 2, 10, EOF)])),
-        ("request 2 0 1 0 5", (0, 3, [])),
-        ("release 0 1", (0, 1, [Event(1, 3, 2, 0, PR, GRANTED, 0, 0, 9)])),
-        ("release 1 2", (0, 2, [])),
-    ]:
-        same("P1", p1.send(words), answer)
+    for call in open(os.path.join(os.path.dirname(__file__), "../../examples/p1.txt")):
+        message, answer, *events = call.replace("EOF", str(EOF)).split()
+        words = [NAMES[message[0]], *message.split(",")[1:]]
+        refusal, handle = (int(number) for number in answer.split(",")[1:])
+        same("P1", p1.send(*words), (refusal, handle, [event_of(line) for line in events]))
     same("P1's table", p1.table, Table(3, [2] + [0] * 15, [Record(3, 2, 0, PR, GRANTED, 0, 0, 9)]))
 
     held = Record(1, 0, 0, NBW, ASKED, 1, 0, EOF)
     waiting = [Record(handle, handle - 1, 0, NBW, WAITING, 0, 0, 9) for handle in (2, 3, 4)]
     p2 = Messages(caller, Table(4, [1] + [0] * 15, [held] + waiting))
-    granted = [Event(1, 2, 1, 0, NBW, CANCELING, 2, 0, 9), Event(1, 3, 2, 0, NBW, CANCELING, 3, 0, 9)]
-    same("P2", p2.send("acknowledge 0 1"), (0, 1, granted + [Event(1, 4, 3, 0, NBW, GRANTED, 4, 0, EOF)]))
+    granted = [event_of("G,2,1,0,2,3,2,0,9"), event_of("G,3,2,0,2,3,3,0,9"), event_of(f"G,4,3,0,2,1,4,0,{EOF}")]
+    same("P2", p2.send("acknowledge 0 1"), (0, 1, granted))
 
     p3 = Messages(caller, Table(2, [1] + [0] * 15, [held, Record(2, 1, 0, PR, WAITING, 0, 0, 9)]))
     same("P3", p3.send("acknowledge 0 1"), (0, 1, []))
 
     blocking = Record(1, 0, 0, BW, CANCELING, 1, 0, 9)
     p4 = Messages(caller, Table(2, [1] + [0] * 15, [blocking, Record(2, 1, 0, NBW, WAITING, 0, 0, 9)]))
-    same("P4", p4.send("downgrade 0 1"), (0, 1, [Event(1, 2, 1, 0, NBW, GRANTED, 2, 0, EOF)]))
+    same("P4", p4.send("downgrade 0 1"), (0, 1, [event_of(f"G,2,1,0,2,1,2,0,{EOF}")]))
     same("P4 again", p4.send("downgrade 0 1"), (11, 0, []))
 
     full = [Record(handle, handle % 64, handle % 16, PR, GRANTED, 0, handle, EOF) for handle in range(1, 257)]
@@ -209,7 +216,7 @@ def stripe(caller, chance):
         entries.append(Run(first, last, number))
     data = caller.get("log")
     same("the log's entries", decode(Run, data)[0], entries)
-    same("the log encoded again", encode(entries) + tail[4 + 20 * len(entries) :], data)
+    same("the log encoded again", encode(entries) + tail[len(encode(entries)) :], data)
     same("the map", caller.get("map"), encode_map(drawn(entries, length)))
 
     # The other way round: a log in another order and with an entry more, and the map that a restart makes of it.

@@ -14,7 +14,7 @@ use std::fmt::{Display, Formatter, Result as Formatted};
 /// let (mut table, mut events) = (Table::new(), EventBuffer::new());
 /// let refusal = table.request(&mut events, 64, 0, Mode::PR, 0, 9).unwrap_err();
 /// assert_eq!((refusal, refusal.number()), (Refusal::Client, 3));
-/// assert_eq!(refusal.text(), "the client is above 63; number the clients from 0 to 63");
+/// assert_eq!(refusal.text(), "The client is above 63: number the clients from 0 to 63.");
 /// assert!(table == Table::new());
 /// ```
 #[derive(Clone, Copy, Debug, PartialEq, Eq, Hash)]
@@ -90,67 +90,18 @@ impl Refusal {
         Refusal::ALL.into_iter().find(|refusal| refusal.number() == number)
     }
 
-    /// What is wrong, and what to do about it.
+    /// What is wrong, and what to do about it: the sentence that C has too.
     pub fn text(self) -> &'static str {
-        match self {
-            Refusal::EventBuffer => {
-                "the event buffer is under 11,268 bytes; lend one that holds 256 events"
-            }
-            Refusal::Table => {
-                "the table is of another length, or not sound; \
-                lend the 10,312 bytes that the last message left"
-            }
-            Refusal::Client => "the client is above 63; number the clients from 0 to 63",
-            Refusal::Stripe => "the stripe is above 15; number the stripes from 0 to 15",
-            Refusal::Mode => "the mode is not 1 to 4; ask for 1 PR, 2 NBW, 3 BW or 4 PW",
-            Refusal::Range => {
-                "first is above last, or last above EOF; \
-                ask for a range with both ends included, up to EOF at most"
-            }
-            Refusal::Handles => {
-                "4,294,967,295 handles are issued; \
-                let every client flush and release, then start an empty table with empty logs"
-            }
-            Refusal::Records => "256 records are in use; request again after a release",
-            Refusal::NoRecord => "no record has this handle; it was released, or never issued",
-            Refusal::OtherClient => {
-                "the record is of another client; name it with the client that requested it"
-            }
-            Refusal::State => {
-                "the record is not in the state for this; \
-                acknowledge once after a revocation, downgrade only a canceling BW or PW"
-            }
-            Refusal::Map => "the map is of another length, or not sound; restart it from the log",
-            Refusal::Log => {
-                "the log is of another length, or not sound; \
-                lend the 40,964 bytes that the last note left"
-            }
-            Refusal::Piece => {
-                "the piece is of length 0, past the image or past EOF; \
-                send at least one byte, all inside the image"
-            }
-            Refusal::Number => {
-                "the number is 0 or above 4,294,967,295; send the number that the grant carried"
-            }
-            Refusal::Runs => {
-                "the resulting map needs over 1,024 runs; once the stripe's write locks are \
-                released and its noted pieces written, start an empty map and log"
-            }
-            Refusal::Entries => {
-                "the log holds 2,048 entries; once the stripe's write locks are \
-                released and its noted pieces written, start an empty map and log"
-            }
-            Refusal::Smaller => {
-                "some byte of the piece has a smaller number in the map; \
-                note the piece first, then write it again"
-            }
-        }
+        SENTENCES[self as usize]
     }
 }
 
+/// The header's sentences, by number; 0 is accepted.
+const SENTENCES: &[&str] = include!(concat!(env!("OUT_DIR"), "/sentences.rs"));
+
 impl Display for Refusal {
     fn fmt(&self, f: &mut Formatter) -> Formatted {
-        write!(f, "refusal {}: {}", self.number(), self.text())
+        write!(f, "refusal {}. {}", self.number(), self.text())
     }
 }
 
