@@ -9,3 +9,4 @@ pub mod Rows
 pub mod Scans
 pub mod Lone
 pub mod Partly
+pub mod Blank

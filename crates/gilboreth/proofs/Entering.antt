@@ -13,12 +13,11 @@ use Rattle.common.specs.Tests.{all, zeros}
 use Rattle.common.proofs.Bools.{and-l, and-r}
 use Rattle.table.specs.Sound.{sound}
 use Rattle.table.specs.Bytes.{tableSize, tableOf, recordsEnd, soundTableBytes}
-use Rattle.table.specs.Places.{countOf}
+use Rattle.table.specs.Places.{countOf, Good}
 use Rattle.table.proofs.Facts.{sound→}
 use Rattle.table.proofs.Records.{locks-length}
 use Rattle.locks.specs.declared.Message.{Message}
 use Rattle.locks.specs.Serve.{serve}
-use Rattle.settle.specs.Posts.{Good}
 use Rattle.serve.specs.declared.Answer.{Answer}
 use Rattle.serve.specs.Leaves.{Leaves}
 use Rattle.serve.proofs.Ending.{leaves-refused}

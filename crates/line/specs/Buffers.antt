@@ -7,9 +7,8 @@ use mathlib.Core.Logic.{_⊎_}
 use lib.ListN.{length, take, drop}
 use Rattle.common.specs.Counters.{width}
 use Rattle.xdr.specs.Layout.{fields}
-use Rattle.xdr.specs.Array.{element}
 use Rattle.xdr.specs.Tab.{tab}
-use Rattle.locks.specs.Events.{eventLayout}
+use Rattle.locks.specs.Events.{eventLayout, eventPlace}
 use Rattle.line.specs.declared.Spot.{Spot}
 use Rattle.line.specs.declared.Read.{Read}
 use Rattle.line.specs.declared.Scan.{Scan}
@@ -56,7 +55,7 @@ pub record Wrote (most : ℕ) (before after : List ℕ) (at r : ℕ) (text : Lis
 
 -- The numbers of event k of an event buffer; those of its first n events
 abbrev pub eventAt : List ℕ → ℕ → List ℕ
-eventAt b k = fields (eventLayout width) b (element (eventLayout width) 0 k) 0
+eventAt b k = fields (eventLayout width) b (eventPlace k) 0
 
 abbrev pub eventsIn : List ℕ → ℕ → List (List ℕ)
 eventsIn b n = tab n (eventAt b)

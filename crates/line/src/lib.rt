@@ -1,13 +1,13 @@
 // Lines of the program: what a line says, and the lines that answer it.
+use locks::EVENT_BYTES;
+use locks::EVENTS;
+use locks::KIND_BYTES;
 use locks::Message;
 ghost use mathlib.Core.Path.{_≡_};
 ghost use mathlib.Core.List.{[], _∷_};
 ghost use Prim.Native.Nat.{_+_, _≤_, _<_};
 ghost use lib.ListN.{length, drop};
-ghost use Rattle.common.specs.Counters.{width};
-ghost use Rattle.xdr.specs.Layout.{fields};
-ghost use Rattle.xdr.specs.Array.{arraySize};
-ghost use Rattle.locks.specs.Events.{eventLayout};
+ghost use Rattle.locks.specs.Events.{Room};
 ghost use Rattle.line.specs.Format.{wrong, digitOf, readDigits, readNumber, readField, ended, longest, readLine};
 ghost use Rattle.line.specs.Text.{decimal, fieldsText, lineBreak, badText, answerText, kindLetter, eventText, outcomeText};
 ghost use Rattle.line.specs.Text.{lineSize, outcomeSize};
@@ -288,23 +288,15 @@ fn put_answer(out: &mut [u8], refusal: u64, handle: u64) -> usize
     put_break(out, c)
 }
 
-// Puts three fields: the numbers that stand in 4 bytes each from `from` on.
-fn put_words(out: &mut [u8], at: usize, events: &[u8], from: usize) -> usize
-    requires { ⌜ (at + 63 ≤ length (now out)) × (from + 12 ≤ length (now events)) ⌝ }
-    ensures { λ r. ⌜ Wrote 63 (now (out .entry)) (now (out .exit)) at r (fieldsText (fields (4 ∷ 4 ∷ 4 ∷ []) (now (events .entry)) from 0)) ⌝ }
+// Puts four fields.
+fn put_four(out: &mut [u8], at: usize, a: u64, b: u64, c: u64, d: u64) -> usize
+    requires { ⌜ at + 84 ≤ length (now out) ⌝ }
+    ensures { λ r. ⌜ Wrote 84 (now (out .entry)) (now (out .exit)) at r (fieldsText (a ∷ b ∷ c ∷ d ∷ [])) ⌝ }
 {
-    let a = put_field(out, at, xdr::u32_at(events, from));
-    let b = put_field(out, a, xdr::u32_at(events, from + 4));
-    put_field(out, b, xdr::u32_at(events, from + 8))
-}
-
-// Puts two fields: the numbers that stand in 8 bytes each from `from` on.
-fn put_hypers(out: &mut [u8], at: usize, events: &[u8], from: usize) -> usize
-    requires { ⌜ (at + 42 ≤ length (now out)) × (from + 16 ≤ length (now events)) ⌝ }
-    ensures { λ r. ⌜ Wrote 42 (now (out .entry)) (now (out .exit)) at r (fieldsText (fields (8 ∷ 8 ∷ []) (now (events .entry)) from 0)) ⌝ }
-{
-    let a = put_field(out, at, xdr::u64_at(events, from));
-    put_field(out, a, xdr::u64_at(events, from + 8))
+    let p = put_field(out, at, a);
+    let q = put_field(out, p, b);
+    let r = put_field(out, q, c);
+    put_field(out, r, d)
 }
 
 // Finds the letter of an event's line by its kind; there is no other than 1 and 2.
@@ -320,20 +312,21 @@ fn letter_of(kind: u64) -> u8
 
 // Puts the line of event k of an event buffer, counted from 0.
 pub fn put_event(out: &mut [u8], at: usize, events: &[u8], k: usize) -> usize
-    requires { ⌜ (at + lineSize 8 ≤ length (now out)) × (arraySize (k + 1) (eventLayout width) ≤ length (now events)) ⌝ }
+    requires { ⌜ (at + lineSize 8 ≤ length (now out)) × Room (k + 1) (now events) ⌝ }
     ensures { λ r. ⌜ Wrote (lineSize 8) (now (out .entry)) (now (out .exit)) at r (eventText (eventAt (now (events .entry)) k)) ⌝ }
 {
-    let from = 4 + 44 * k;
-    let a = put_byte(out, at, letter_of(xdr::u32_at(events, from)));
-    let b = put_words(out, a, events, from + 4);
-    let c = put_words(out, b, events, from + 16);
-    let d = put_hypers(out, c, events, from + 28);
-    put_break(out, d)
+    let from = EVENTS + EVENT_BYTES * k;
+    let kind = xdr::u32_at(events, from);
+    let l = table::shown_at(events, from + KIND_BYTES);
+    let a = put_byte(out, at, letter_of(kind));
+    let b = put_four(out, a, l.handle.0, l.client, l.stripe, l.mode);
+    let c = put_four(out, b, l.state, l.number.0, l.first, l.last);
+    put_break(out, c)
 }
 
 // Puts the line of an answer and the lines of its n events, which stand in the event buffer.
 pub fn put_outcome(out: &mut [u8], refusal: u64, handle: u64, events: &[u8], n: usize) -> usize
-    requires { ⌜ (outcomeSize n ≤ length (now out)) × (arraySize n (eventLayout width) ≤ length (now events)) ⌝ }
+    requires { ⌜ (outcomeSize n ≤ length (now out)) × Room n (now events) ⌝ }
     ensures { λ r. ⌜ Wrote (outcomeSize n) (now (out .entry)) (now (out .exit)) 0 r (outcomeText refusal handle (eventsIn (now (events .entry)) n)) ⌝ }
 {
     let mut at = put_answer(out, refusal, handle);

@@ -7,7 +7,7 @@ use lib.ListN.{take, drop, take-append-drop}
 use Rattle.common.specs.Counters.{width}
 use Rattle.table.specs.Table.{Table}
 use Rattle.table.specs.Bytes.{tableSize, tableOf}
-use Rattle.promises.proofs.Sessions.{zeros-empty}
+use Rattle.table.proofs.Zeros.{zeros-empty}
 use Rattle.line.specs.Lines.{left}
 use Rattle.line.specs.Buffers.{Keeps}
 use Rattle.line.specs.Session.{writtenFrom, written}

@@ -17,6 +17,7 @@ use Rattle.locks.specs.Refusals.{refusal}
 use Rattle.locks.specs.Serve.{Outcome, change, answered, accepted, refused, serve}
 use Rattle.locks.specs.Events.{eventFields, eventsSize, eventsOver}
 use Rattle.locks.proofs.Events.{serve-once}
+use Rattle.locks.proofs.Fitting.{serve-fit}
 use Rattle.serve.specs.declared.Answer.{Answer}
 use Rattle.serve.specs.Leaves.{Leaves}
 use Rattle.gilboreth.specs.Messages.{Serves}
@@ -29,7 +30,6 @@ use Rattle.line.specs.Buffers.{Wrote, eventsIn}
 use Rattle.line.proofs.Writing.{wrote-front}
 use Rattle.line.proofs.Events.{events-read}
 use Rattle.lockline.specs.Program.{Lent, Answers}
-use Rattle.lockline.proofs.Fitting.{events-fit}
 
 -- a refused call has no events
 refused-none : (x : Table) (m : Message) → eqb (serve x m .refusal) 0 ≡ false → serve x m .events ≡ []
@@ -69,7 +69,7 @@ module _ (m : Message) (t b : List ℕ) {r : Answer} {u c : List ℕ} (s : sound
       go : (x : Bool) → eqb (o .refusal) 0 ≡ x → eventsIn c (length (o .events)) ≡ map eventFields (o .events)
       go true e =
           let k : c ≡ eventsOver width b (o .events) = served .events ∙ ap (λ (y : Bool). cond y (eventsOver width b (o .events)) b) e in
-          rw k (events-read b (o .events) (omega (arith, few)) (omega (arith, few)) (events-fit (tableOf width t) m sounds))
+          rw k (events-read b (o .events) (omega (arith, few)) (omega (arith, few)) (serve-fit (tableOf width t) m sounds))
       go false e = rw (refused-none (tableOf width t) m e)
 
   -- the lines of its answer are put

@@ -4,7 +4,7 @@ use native.Mathlib.Omega.{arith}
 use lib.ListN.{replicate, length-replicate}
 use Rattle.common.specs.Counters.{width}
 use Rattle.table.specs.Bytes.{tableSize}
-use Rattle.promises.proofs.Sessions.{zeros-sound}
+use Rattle.table.proofs.Zeros.{zeros-sound}
 use Rattle.lockline.specs.Program.{Ready}
 
 pub started : Ready (replicate 130 0) 0 (replicate (tableSize width) 0) (replicate 11268 0) (replicate 43821 0)

@@ -4,7 +4,7 @@ use mathlib.Core.Path.{subst}
 use lib.ListN.{replicate}
 use Rattle.common.specs.Counters.{width}
 use Rattle.table.specs.Bytes.{tableSize}
-use Rattle.promises.proofs.Encoding.{blank-bytes}
+use Rattle.common.proofs.Blank.{blank-bytes}
 use Rattle.line.specs.Format.{longest}
 use Rattle.lockline.specs.Run.{Run, start, Whole}
 use Rattle.lockline.proofs.Starting.{started}

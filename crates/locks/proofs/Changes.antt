@@ -13,7 +13,7 @@ use Rattle.common.proofs.Bools.{and-l, and-r, and-i, by-cond}
 use Rattle.common.proofs.Listed.{all-map, pairs-map, count-map, all-imp}
 use Rattle.modes.specs.Codes.{granted, asked, canceling, pr, nbw, bw}
 use Rattle.table.specs.declared.Lock.{Lock}
-use Rattle.table.specs.Table.{handleOf, numberOf, waits, held, writes}
+use Rattle.table.specs.Table.{handleOf, numberOf, remade, waits, held, writes}
 use Rattle.table.specs.Sound.{valid, differ, share, agree, room, stripes, wants}
 use Rattle.table.proofs.Facts.{Valid, valid→, →valid, Yields, Clear, Friends, friends→, →friends, Sound}
 use Rattle.locks.specs.Settle.{inState, wanted, revoked}
@@ -21,19 +21,6 @@ use Rattle.locks.specs.Refusals.{mayAcknowledge, mayDowngrade}
 use Rattle.locks.specs.Serve.{downgraded}
 
 -- what such a change leaves of a record: all but its mode and state
-abbrev recoded : ℕ → ℕ → Lock → Lock
-recoded m s r =
-    record {
-      handle = r .handle;
-      client = r .client;
-      stripe = r .stripe;
-      mode = m;
-      state = s;
-      number = r .number;
-      first = r .first;
-      last = r .last;
-    }
-
 record Same (r r′ : Lock) : Type 0 where
   handle-is : handleOf r′ ≡ handleOf r
   client-is : r′ .client ≡ r .client
@@ -42,7 +29,7 @@ record Same (r r′ : Lock) : Type 0 where
   first-is : r′ .first ≡ r .first
   last-is : r′ .last ≡ r .last
 
-same : (m s : ℕ) (r : Lock) → Same r (recoded m s r)
+same : (m s : ℕ) (r : Lock) → Same r (remade r m s (numberOf r) (r .last))
 same m s r = record { handle-is = refl; client-is = refl; stripe-is = refl; number-is = refl; first-is = refl; last-is = refl }
 
 -- r′ is r after such a change

@@ -19,7 +19,7 @@ use Rattle.common.proofs.Sublist as sub
 use Rattle.common.proofs.Sublist.{Sub}
 use Rattle.modes.specs.Codes.{granted, asked, canceling}
 use Rattle.modes.specs.Conflict.{conflict}
-use Rattle.modes.proofs.Rule.{passes, Passes}
+use Rattle.modes.proofs.Rule.{harmless, Harmless}
 use Rattle.table.specs.declared.Lock.{Lock}
 use Rattle.table.specs.Table.{Table, handleOf, waits, held, maxRecords}
 use Rattle.table.specs.Sound.{valid, differ, share, agree, sound}
@@ -38,16 +38,16 @@ turned : (a b : Lock) → T (other a b) → T (other b a)
 turned a b o = not-T (eqb (handleOf b) (handleOf a)) (λ k. T-not (eqb (handleOf a) (handleOf b)) o (eq→eqb (handleOf a) (handleOf b) (sym (eqb→eq (handleOf b) (handleOf a) k))))
 
 -- Without canceling the matrix is the same both ways: a request x that w does not conflict with does not conflict with w once it is granted
-pr-passes : (s : ℕ) → T (conflict 1 1 s) → ⊥
+pr-meets-pr : (s : ℕ) → T (conflict 1 1 s) → ⊥
 unfolding conflict
-pr-passes s t = t
+pr-meets-pr s t = t
 
 pub not-both : (w x : Lock) (s l n issued : ℕ) (lasts : List ℕ) → Valid issued lasts w → Valid issued lasts x → T (not (against w l x)) → T (not (presses (given w s n l) x))
 not-both w x s l n issued lasts v u c =
     not-T (presses (given w s n l) x)
     (λ t.
     let a : T (conflicts x (given w s n l)) = search (and-r) in
-    go (passes (w .mode) (x .mode) (x .state) (v .mode-lo) (v .mode-hi) (u .mode-lo) (u .mode-hi)
+    go (harmless (w .mode) (x .mode) (x .state) (v .mode-lo) (v .mode-hi) (u .mode-lo) (u .mode-hi)
     (not-T (conflict (w .mode) (x .mode) (x .state))
     (λ z.
     let o : T (other x w) = search (and-l, and-r) in
@@ -57,8 +57,8 @@ not-both w x s l n issued lasts v u c =
     T-not (against w l x) c (search (and-l, and-r, and-i) depth 7))))
     (eqb→eq (x .state) 0 (search (and-l))) (search (and-r)))
   where
-    go : Passes (w .mode) (x .mode) (x .state) → x .state ≡ 0 → T (conflict (x .mode) (w .mode) s) → ⊥
-    go (inl p) e h = pr-passes s (subst₂ (λ (a b : ℕ). T (conflict a b s)) (p .1) (p .0) h)
+    go : Harmless (w .mode) (x .mode) (x .state) → x .state ≡ 0 → T (conflict (x .mode) (w .mode) s) → ⊥
+    go (inl p) e h = pr-meets-pr s (subst₂ (λ (a b : ℕ). T (conflict a b s)) (p .1) (p .0) h)
     go (inr p) e h = omega arith
 
 -- What is granted is held

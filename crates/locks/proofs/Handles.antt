@@ -20,7 +20,7 @@ use Rattle.locks.specs.Session.{tableAfter, requests, handleTaken, handl
 use Rattle.locks.proofs.Walk.{turns-sound}
 use Rattle.locks.proofs.Served.{change-sound, serve-sound}
 use Rattle.locks.proofs.Rows.{Row, row-none, row-join, row-from-one, row-once}
-use Rattle.locks.proofs.Sessions.{empty-sound}
+use Rattle.table.proofs.Zeros.{empty-sound}
 
 -- settling issues none
 issued-same : (t : Table) → Sound (t .issued) (t .lasts) (t .locks) → settle t .table .issued ≡ t .issued

@@ -14,3 +14,4 @@ pub mod Greatest
 pub mod Rows
 pub mod Sessions
 pub mod Handles
+pub mod Fitting

@@ -46,8 +46,8 @@ module _ (issued : ℕ) (lasts : List ℕ) (before : List Lock) (w : Lock) (afte
   table = before ++ (w ∷ after)
 
   -- in whatever state, with the last byte l, if so it conflicts with no earlier record
-  passes-none : (s l : ℕ) → T (all (λ r. not (against w l r)) before) → T (all (λ r. not (overtakes (given w s (nextNumber lasts w) l) r)) before)
-  passes-none s l c =
+  met-by-none : (s l : ℕ) → T (all (λ r. not (against w l r)) before) → T (all (λ r. not (overtakes (given w s (nextNumber lasts w) l) r)) before)
+  met-by-none s l c =
       let g : Lock = given w s (nextNumber lasts w) l in
       all-imp2 (valid issued lasts) (λ r. not (against w l r)) (λ r. not (overtakes g r))
       (λ r v n. nand-r (held g) (presses g r) (not-both w r s l (nextNumber lasts w) issued lasts (w-valid-here issued lasts before w after S f) (valid→ issued lasts r v) n))
@@ -58,10 +58,10 @@ module _ (issued : ℕ) (lasts : List ℕ) (before : List Lock) (w : Lock) (afte
   overtakes-none =
       by-cond (λ (g : Lock). T (all (λ r. not (overtakes g r)) before)) (any (hurries w) table)
       (given w canceling (nextNumber lasts w) (w .last)) (given w granted (nextNumber lasts w) (widest w eof table))
-      (λ u. passes-none canceling (w .last)
+      (λ u. met-by-none canceling (w .last)
       (all-imp2 (λ r. agree r w) (λ r. not (obstacle w r)) (λ r. not (conflicts w r)) (elder w) before
       (pairs-before agree before w after (S .apart)) (all-left (λ r. not (obstacle w r)) before (w ∷ after) (unhindered issued lasts before w after S f))))
-      (λ u. passes-none granted (widest w eof table)
+      (λ u. met-by-none granted (widest w eof table)
       (all-left (λ r. not (against w (widest w eof table) r)) before (w ∷ after) (widened-clear issued lasts before w after S f u)))
 
 -- what is held is not overtaken

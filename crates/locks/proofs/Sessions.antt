@@ -15,8 +15,9 @@ use Rattle.common.proofs.Listed.{keep-append}
 use Rattle.modes.specs.Codes.{granted, asked, canceling}
 use Rattle.table.specs.declared.Lock.{Lock}
 use Rattle.table.specs.Table.{Table, empty, stripeCount, numberOf, writes, lastOf}
-use Rattle.table.specs.Sound.{sound, room}
+use Rattle.table.specs.Sound.{sound}
 use Rattle.table.proofs.Facts.{Sound, sound→}
+use Rattle.table.proofs.Zeros.{empty-sound}
 use Rattle.locks.specs.declared.Message.{Message}
 use Rattle.locks.specs.declared.Message.the-variants.{Request, Acknowledge, Downgrade, Release}
 use Rattle.locks.specs.Conflicts.{hurries}
@@ -31,10 +32,6 @@ use Rattle.locks.proofs.Served.{change-keeps, by-served, serve-sound}
 use Rattle.locks.proofs.Waits.{stuck, serve-stuck}
 use Rattle.locks.proofs.Overtaken.{inOrder, serve-in-order}
 use Rattle.locks.proofs.Rows.{Row, row-none, row-join, row-from-one}
-
-pub empty-sound : T (sound empty)
-unfolding sound room
-empty-sound = tt
 
 pub session-sound : (t : Table) (ms : List Message) → T (sound t) → T (sound (tableAfter t ms))
 session-sound t [] s = s

@@ -15,7 +15,7 @@ use Rattle.common.proofs.Listed.{all-imp, all-both, all-imp2, none, all-out, al
 use Rattle.common.proofs.Order.{eq→eqb}
 use Rattle.modes.specs.Codes.{granted, canceling}
 use Rattle.modes.specs.Conflict.{conflict}
-use Rattle.modes.proofs.Rule.{passes, Passes}
+use Rattle.modes.proofs.Rule.{harmless, Harmless}
 use Rattle.table.specs.declared.Lock.{Lock}
 use Rattle.table.specs.Table.{handleOf, waits, held, writes}
 use Rattle.table.specs.Sound.{valid, differ, share, agree, room, stripes, wants}
@@ -78,11 +78,11 @@ module _ (issued : ℕ) (lasts : List ℕ) (w : Lock) (s l : ℕ) where
         let m = u .number-of (and-i (held r) (writes r) k q) in
         let z : getD lasts (w .stripe) 0 ≡ getD lasts (r .stripe) 0 = ap (λ (i : ℕ). getD lasts i 0) e in
         omega arith;
-    clear = λ h k e p q. cases k e (passes (w .mode) (r .mode) (r .state) (v .mode-lo) (v .mode-hi) (u .mode-lo) (u .mode-hi)
+    clear = λ h k e p q. cases k e (harmless (w .mode) (r .mode) (r .state) (v .mode-lo) (v .mode-hi) (u .mode-lo) (u .mode-hi)
         (not-T (conflict (w .mode) (r .mode) (r .state)) (λ z. T-not (against w l r) (c k) (search (and-i, eq→eqb, le→leb)))));
   }
     where
-      cases : T (held r) → w .stripe ≡ r .stripe → Passes (w .mode) (r .mode) (r .state) → Clear made r
+      cases : T (held r) → w .stripe ≡ r .stripe → Harmless (w .mode) (r .mode) (r .state) → Clear made r
       cases k e (inl t) = inl t
       cases k e (inr t) =
           let n = next-is lasts w (is-write w (t .2)) in

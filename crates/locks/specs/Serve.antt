@@ -8,7 +8,7 @@ use Rattle.common.specs.Refusals.{Rule, firstHit}
 use Rattle.common.specs.Tests.{keep}
 use Rattle.modes.specs.Codes.{waiting, canceling, nbw}
 use Rattle.table.specs.declared.Lock.{Lock}
-use Rattle.table.specs.Table.{Table}
+use Rattle.table.specs.Table.{Table, numberOf, remade}
 use Rattle.table.specs.Places.{withLocks}
 use Rattle.locks.specs.declared.Message.{Message}
 use Rattle.locks.specs.declared.Message.the-variants.{Request, Acknowledge, Downgrade, Release}
@@ -30,17 +30,7 @@ asking h c s m f l =
     }
 
 abbrev pub downgraded : Lock → Lock
-downgraded r =
-    record {
-      handle = r .handle;
-      client = r .client;
-      stripe = r .stripe;
-      mode = nbw;
-      state = r .state;
-      number = r .number;
-      first = r .first;
-      last = r .last;
-    }
+downgraded r = remade r nbw (r .state) (numberOf r) (r .last)
 
 -- "An accepted message does its own change (add a waiting record; state 2 to 3; mode to NBW; remove the record)."
 unfoldable pub change : Table → Message → Table

@@ -4,13 +4,12 @@ use mathlib.Core.Bool.{Bool, not, _&&_, cond}
 use mathlib.Core.List.{List, [], _∷_, _++_, map}
 use lib.Dec.{eqb, leb}
 use lib.ListN.{length, getD, set}
-use Rattle.common.specs.Counters.{number}
 use Rattle.common.specs.Ranges.{eof}
 use Rattle.common.specs.Tests.{any, keep}
 use Rattle.modes.specs.Codes.{granted, asked, canceling}
 use Rattle.modes.specs.Conflict.{conflict}
 use Rattle.table.specs.declared.Lock.{Lock}
-use Rattle.table.specs.Table.{Table, numberOf, nth, waits, writes}
+use Rattle.table.specs.Table.{Table, numberOf, remade, nth, waits, writes}
 use Rattle.locks.specs.Conflicts.{other, conflicts, obstacle, hurries}
 
 -- An event is of kind 1, a grant, or 2, a revocation, and shows the record as it then is
@@ -26,17 +25,7 @@ revocation r = record { kind = 2; lock = r }
 
 -- A record with another state, number and last byte; with another state
 abbrev pub given : Lock → ℕ → ℕ → ℕ → Lock
-given r state n last =
-    record {
-      handle = r .handle;
-      client = r .client;
-      stripe = r .stripe;
-      mode = r .mode;
-      state = state;
-      number = number n;
-      first = r .first;
-      last = last;
-    }
+given r state n last = remade r (r .mode) state n last
 
 abbrev pub inState : ℕ → Lock → Lock
 inState state r = given r state (numberOf r) (r .last)

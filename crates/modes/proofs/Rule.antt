@@ -1,4 +1,4 @@
--- Table II's rule, at all sixteen entries at once: PR passes PR, NBW and BW pass a canceling NBW, and nothing else passes.
+-- Table II's rule, at all sixteen entries at once: PR is harmless to PR, a canceling NBW to NBW and BW, and nothing else is.
 use Prim.Native.Nat.{ℕ, _+_, _-_, _≤_}
 use mathlib.Core.Bool.{Bool, true, false, not, _&&_, _||_, cond, Bool·not-not}
 use mathlib.Core.Logic.{_⊎_, inl, inr, ⊎-elim}
@@ -13,9 +13,9 @@ use Rattle.modes.specs.Codes.{pr, nbw, bw, canceling}
 use Rattle.modes.specs.Conflict.{never, always, unless, matrix, entry, bars, conflict}
 use Rattle.modes.proofs.Table.{grid, at-grid}
 
--- an asked mode a passes a record of mode m in state s
-abbrev pub Passes : ℕ → ℕ → ℕ → Type 0
-Passes a m s = ((a ≡ pr) × (m ≡ pr)) ⊎ ((m ≡ nbw) × (s ≡ canceling) × (nbw ≤ a) × (a ≤ bw))
+-- a record of mode m in state s is harmless to an asked mode a
+abbrev pub Harmless : ℕ → ℕ → ℕ → Type 0
+Harmless a m s = ((a ≡ pr) × (m ≡ pr)) ⊎ ((m ≡ nbw) × (s ≡ canceling) × (nbw ≤ a) × (a ≤ bw))
 
 -- both PR; NBW or BW against NBW
 abbrev readers : ℕ → ℕ → Bool
@@ -50,15 +50,15 @@ rule : (a m s : ℕ) → 1 ≤ a → a ≤ 4 → 1 ≤ m → m ≤ 4 → not (co
 unfolding conflict
 rule a m s h k i j = rw (entry-is a m h k i j) (clear (readers a m) (writers a m) s)
 
-pub passes : (a m s : ℕ) → 1 ≤ a → a ≤ 4 → 1 ≤ m → m ≤ 4 → T (not (conflict a m s)) → Passes a m s
-passes a m s h k i j t =
+pub harmless : (a m s : ℕ) → 1 ≤ a → a ≤ 4 → 1 ≤ m → m ≤ 4 → T (not (conflict a m s)) → Harmless a m s
+harmless a m s h k i j t =
     ⊎-elim
     (λ (u : T (readers a m)). inl (search (and-l, and-r, eqb→eq)))
     (λ (u : T (writers a m && eqb s canceling)). inr (search (and-l, and-r, eqb→eq, leb→le)))
     (or-e (readers a m) (writers a m && eqb s canceling) (subst T (rule a m s h k i j) t))
 
-pub passes-back : (a m s : ℕ) → Passes a m s → T (not (conflict a m s))
-passes-back a m s (inl p) =
+pub harmless-back : (a m s : ℕ) → Harmless a m s → T (not (conflict a m s))
+harmless-back a m s (inl p) =
     rw (rule a m s (omega arith) (omega arith) (omega arith) (omega arith)) (search (or-l, and-i, eq→eqb))
-passes-back a m s (inr p) =
+harmless-back a m s (inr p) =
     rw (rule a m s (omega arith) (omega arith) (omega arith) (omega arith)) (search (or-r, and-i, eq→eqb, le→leb))

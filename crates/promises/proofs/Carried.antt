@@ -23,7 +23,8 @@ use Rattle.runs.proofs.Over.{over-is, owner-snoc}
 use Rattle.runs.proofs.Draw.{map-owner}
 use Rattle.runs.proofs.Unique.{map-snoc}
 use Rattle.runs.proofs.Sound.{log-is, map-sound}
-use Rattle.runs.proofs.Blank.{blank, be-blank, none-counted, none-logged, no-runs, empty-map}
+use Rattle.common.proofs.Blank.{blank, be-blank}
+use Rattle.runs.proofs.Blank.{none-counted, none-logged, no-runs, empty-map}
 use Rattle.runs.proofs.MapBytes.{map-back, map-back-sound}
 use Rattle.runs.proofs.LogBytes.{LogBytes, log-bytes, bytes-log, entries, log-same}
 use Rattle.stripe.specs.declared.Extent.{Extent}

@@ -5,9 +5,11 @@ use mathlib.Core.Path.{_≡_, refl}
 use lib.ListN.{replicate}
 use Rattle.common.specs.Counters.{width}
 use Rattle.common.specs.Refusals.{firstHit}
+use Rattle.common.proofs.Blank.{blank-bytes}
 use Rattle.xdr.specs.Be.{Bytes}
 use Rattle.xdr.proofs.Arrays.{put-array-bytes}
 use Rattle.table.specs.Table.{Table, empty, maxRecords}
+use Rattle.table.proofs.Encoding.{tableBytes, table-bytes}
 use Rattle.runs.specs.declared.Run.{Run}
 use Rattle.runs.specs.Sound.{maxEntries}
 use Rattle.runs.specs.Bytes.{runLayout, runFields, mapSize, logSize, bytesOf, mapBytes}
@@ -19,7 +21,6 @@ use Rattle.gilboreth.specs.Messages.{outcome}
 use Rattle.stripe.specs.Piece.{extent, piece}
 use Rattle.promises.specs.Demand1.{Entry, request, acknowledge, downgrade, release, note, write, restart, numbers, entryOf}
 use Rattle.promises.specs.Demand1.{Words, fields, Gets, message, noting, writing, restarting, Reached, Demand1}
-use Rattle.promises.proofs.Encoding.{blank-bytes, tableBytes, table-bytes}
 use Rattle.promises.proofs.Determined.{of-message, of-note, of-write, of-restart}
 use Rattle.promises.proofs.Spaced.{spaced}
 use Rattle.promises.proofs.Reached.{buffer, no-events, another-length, on-empty, spent, none-left, queued, no-room, single, on-single}

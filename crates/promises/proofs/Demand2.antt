@@ -1,5 +1,5 @@
 -- Demand 2: a session of the entries is one of the rules (Sessions), and the rules' theorems speak of each call. New here: the events' array decodes
--- to the rules' events, since an event shows a record of a sound table, which fits its fields.
+-- to the rules' events, which fit their fields.
 use Prim.Native.Nat.{ℕ, _+_, _≤_}
 use native.Mathlib.Omega.{arith}
 use mathlib.Core.Bool.{Bool, true, not, cond}
@@ -9,74 +9,37 @@ use lib.Dec.{T, eqb}
 use lib.ListN.{length, getD, replicate, length-map}
 use borrow.Author.Tests.{eq-eqb}
 use Rattle.common.specs.Counters.{width}
-use Rattle.common.specs.Tests.{all, keep, pairs}
+use Rattle.common.specs.Tests.{all, pairs}
+use Rattle.common.proofs.Blank.{blank-bytes}
 use Rattle.common.proofs.Bools.{and-l, and-r, and-i, by-cond}
-use Rattle.common.proofs.Listed.{all-keep}
 use Rattle.common.proofs.Order.{eq→eqb}
-use Rattle.common.proofs.Sublist.{sub-all}
 use Rattle.xdr.specs.Be.{Bytes}
-use Rattle.xdr.specs.Layout.{Fit}
-use Rattle.xdr.specs.Array.{array, arraySize, Fits}
+use Rattle.xdr.specs.Array.{array, arraySize}
 use Rattle.xdr.proofs.Arrays.{array-put, put-array-other, put-array-length}
-use Rattle.modes.specs.Codes.{asked}
-use Rattle.table.specs.declared.Lock.{Lock}
 use Rattle.table.specs.Table.{Table, empty, handleOf}
-use Rattle.table.specs.Sound.{valid, sound}
+use Rattle.table.specs.Sound.{sound}
 use Rattle.table.specs.Bytes.{tableSize, tableOf, soundTableBytes}
-use Rattle.table.proofs.Facts.{Sound, sound→}
+use Rattle.table.proofs.Zeros.{bytes-sound, zeros-empty, zeros-sound}
 use Rattle.locks.specs.declared.Message.{Message}
-use Rattle.locks.specs.Settle.{Event, Settled, grantEvent, revocation, inState, turns, wanted, revocations, settle}
+use Rattle.locks.specs.Settle.{Event, settle}
 use Rattle.locks.specs.Refusals.{refusal}
 use Rattle.locks.specs.Serve.{Outcome, change, answered, accepted, refused, serve}
 use Rattle.locks.specs.Events.{eventLayout, eventFields, eventsSize, eventsOver}
 use Rattle.locks.specs.Session.{tableAfter, events, numbers}
-use Rattle.locks.proofs.Served.{change-sound}
+use Rattle.locks.proofs.Fitting.{serve-fit}
 use Rattle.locks.proofs.Sessions.{session-numbers}
 use Rattle.locks.proofs.Handles.{session-handles, session-once}
-use Rattle.locks.proofs.Walk.{Walked}
-use Rattle.locks.proofs.Events.{Spared, spare, Once, serve-once, handles}
+use Rattle.locks.proofs.Events.{Once, serve-once, handles}
 use Rattle.serve.specs.declared.Answer.{Answer}
 use Rattle.serve.specs.Leaves.{Leaves}
 use Rattle.gilboreth.specs.Messages.{outcome, Serves}
 use Rattle.promises.specs.Session.{Session, done, call}
 use Rattle.promises.specs.Demand2.{Called, Goes, Followed, Demand2}
 use Rattle.promises.proofs.Determined.{of-message}
-use Rattle.promises.proofs.Encoding.{blank-bytes}
 use Rattle.promises.proofs.Reached.{buffer, buffer-long}
-use Rattle.promises.proofs.Fitting.{event-fits, asked-fits}
 use Rattle.promises.proofs.Outcomes.{served-hit}
-use Rattle.promises.proofs.Sessions.{Follows, outcome-is, bytes-sound, follows, session-follows, session-events, zeros-empty, zeros-sound}
+use Rattle.promises.proofs.Sessions.{Follows, outcome-is, bytes-sound, follows, session-follows, session-events}
 use Rattle.promises.proofs.Settled.{serve-reasoned}
-
-abbrev FitEvents : List Event → Type 0
-FitEvents es = Fits (eventLayout width) (map eventFields es)
-
-fit-join : (es fs : List Event) → FitEvents es → FitEvents fs → FitEvents (es ++ fs)
-fit-join [] fs p q = q
-fit-join (e ∷ es) fs p q = (p .0, fit-join es fs (p .1) q)
-
--- each of the records makes an event that fits
-fit-all : (p : Lock → Bool) (f : Lock → Event) → ((r : Lock) → T (p r) → Fit (eventLayout width) (eventFields (f r))) → (rs : List Lock) → T (all p rs) → FitEvents (map f rs)
-fit-all p f h [] t = tt
-fit-all p f h (r ∷ rs) t = (h r (and-l (p r) (all p rs) t), fit-all p f h rs (and-r (p r) (all p rs) t))
-
-settle-fit : (U : Table) → Sound (U .issued) (U .lasts) (U .locks) → FitEvents (settle U .events)
-unfolding settle
-settle-fit U S =
-    let s : Settled = turns (length (U .locks)) U in
-    let W : Walked (U .issued) Spared s = spare U S in
-    let p : Lock → Bool = valid (U .issued) (s .table .lasts) in
-    let G = W .law in
-    let rs : List Lock = s .table .locks in
-    fit-join (s .events) (revocations rs)
-    (subst FitEvents (sym (G .are)) (fit-all p grantEvent (λ r t. event-fits (U .issued) (s .table .lasts) rs (W .sound) 1 r (omega arith) t) (G .grants) (sub-all p (G .among) (W .sound .each))))
-    (fit-all p (λ r. revocation (inState asked r)) (λ r t. asked-fits (U .issued) (s .table .lasts) rs (W .sound) r t) (keep (wanted rs) rs) (all-keep p (wanted rs) rs (W .sound .each)))
-
-serve-fit : (X : Table) (m : Message) → T (sound X) → FitEvents (serve X m .events)
-unfolding serve
-serve-fit X m q =
-    by-cond (λ (o : Outcome). FitEvents (o .events)) (eqb (refusal X m) 0) (accepted (answered X m) (settle (change X m))) (refused X (refusal X m))
-    (λ e. settle-fit (change X m) (change-sound X m e (sound→ X q))) (λ e. tt)
 
 -- no handle twice, so no record twice
 apart : (e : Event) (es : List Event) → T (all (λ d. not (eqb (handleOf (e .lock)) d)) (handles es)) → T (all (λ y. not (eqb (handleOf (e .lock)) (handleOf (y .lock)))) es)

@@ -14,6 +14,8 @@ use Rattle.xdr.specs.Be.{Bytes}
 use Rattle.table.specs.Bytes.{tableOf}
 use Rattle.table.specs.Places.{Holds}
 use Rattle.table.proofs.Unique.{holds-unique}
+use Rattle.table.proofs.Encoding.{tableBytes, table-bytes, table-held}
+use Rattle.table.proofs.Fitting.{sound-fits}
 use Rattle.locks.specs.declared.Message.{Message}
 use Rattle.locks.specs.Refusals.{rules}
 use Rattle.locks.specs.Serve.{Outcome, refused}
@@ -26,8 +28,6 @@ use Rattle.path.specs.Note.{noteAnswer, noteMap, noteLog}
 use Rattle.path.specs.Write.{writeAnswer, writeImage}
 use Rattle.path.specs.Restart.{restartAnswer, restartMap}
 use Rattle.promises.specs.Demand1.{Judged, Served, OfMessage, OfNote, OfWrite, OfRestart}
-use Rattle.promises.proofs.Encoding.{tableBytes, table-bytes, table-held}
-use Rattle.promises.proofs.Fitting.{sound-fits}
 use Rattle.promises.proofs.Outcomes.{judged, outcome-hit, outcome-alone, outcome-sound, outcome-listed}
 use Rattle.promises.proofs.StripeRefusals.{note-listed, write-listed, restart-listed, note-refused, write-refused, restart-refused}
 

@@ -1,5 +1,3 @@
-pub mod Encoding
-pub mod Fitting
 pub mod Outcomes
 pub mod Spaced
 pub mod StripeRefusals

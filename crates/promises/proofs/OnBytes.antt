@@ -10,10 +10,12 @@ use lib.ListN.{replicate}
 use borrow.Author.Tests.{eqb-true}
 use Rattle.common.specs.Counters.{width}
 use Rattle.common.proofs.Bools.{never}
+use Rattle.common.proofs.Blank.{blank-bytes}
 use Rattle.xdr.specs.Be.{Bytes}
 use Rattle.xdr.specs.Array.{array}
 use Rattle.table.specs.Table.{Table}
 use Rattle.table.specs.Bytes.{tableSize, tableOf, soundTableBytes}
+use Rattle.table.proofs.Zeros.{zeros-empty, zeros-sound}
 use Rattle.runs.specs.declared.Run.{Run}
 use Rattle.runs.specs.Bytes.{mapSize}
 use Rattle.runs.proofs.Blank.{none-counted, no-runs}
@@ -29,10 +31,8 @@ use Rattle.promises.specs.Examples.{Row, sending, calling, dots, compute
 use Rattle.promises.specs.Examples as examples
 use Rattle.promises.specs.OnBytes.{shown, Prints, done, call, RowHolds, AllHold, OnBytes}
 use Rattle.promises.proofs.Determined.{of-message}
-use Rattle.promises.proofs.Encoding.{blank-bytes}
 use Rattle.promises.proofs.Reached.{buffer, buffer-long}
 use Rattle.promises.proofs.Outcomes.{Alone, served-alone}
-use Rattle.promises.proofs.Sessions.{zeros-empty, zeros-sound}
 use Rattle.promises.proofs.Demand2.{called}
 use Rattle.promises.proofs.Carried.{begin-carried}
 use Rattle.promises.proofs.Followed.{decoded, follows}

@@ -15,6 +15,7 @@ use Rattle.common.proofs.Refusals.{listed}
 use Rattle.table.specs.Table.{Table, handleOf, maxClient}
 use Rattle.table.specs.Sound.{sound}
 use Rattle.table.specs.Bytes.{tableOf, soundTableBytes}
+use Rattle.table.proofs.Zeros.{bytes-sound}
 use Rattle.locks.specs.declared.Message.{Message}
 use Rattle.locks.specs.declared.Message.the-variants.{Request, Acknowledge, Downgrade, Release}
 use Rattle.locks.specs.Settle.{settle}
@@ -24,7 +25,6 @@ use Rattle.locks.specs.Events.{eventsSize}
 use Rattle.locks.proofs.Served.{serve-sound}
 use Rattle.gilboreth.specs.Messages.{entryRules, outcome}
 use Rattle.promises.specs.Demand1.{keeps, Judged, numbers, entryOf}
-use Rattle.promises.proofs.Sessions.{bytes-sound}
 
 -- The first hit is judged so
 pub judged : (rs : List Rule) → Judged rs (firstHit rs)

@@ -15,18 +15,18 @@ use Rattle.table.specs.Table.{Table, empty, stripeCount, maxRecords}
 use Rattle.table.specs.Sound.{sound, valid, room, agree}
 use Rattle.table.specs.Bytes.{soundTableBytes}
 use Rattle.table.proofs.Facts.{Sound, sound→, →sound}
+use Rattle.table.proofs.Encoding.{tableBytes, table-held}
+use Rattle.table.proofs.Fitting.{sound-fits}
+use Rattle.table.proofs.Zeros.{holds-sound, empty-sound}
 use Rattle.locks.specs.declared.Message.{Message}
 use Rattle.locks.specs.declared.Message.the-variants.{Request}
 use Rattle.locks.specs.Refusals.{rules}
 use Rattle.locks.specs.Serve.{Outcome, asking, serve}
 use Rattle.locks.specs.Events.{eventsSize}
 use Rattle.locks.proofs.Served.{asked}
-use Rattle.locks.proofs.Sessions.{empty-sound}
 use Rattle.gilboreth.specs.Messages.{outcome}
-use Rattle.promises.proofs.Encoding.{tableBytes, table-held}
-use Rattle.promises.proofs.Fitting.{sound-fits}
 use Rattle.promises.proofs.Outcomes.{served-hit}
-use Rattle.promises.proofs.Sessions.{outcome-is, holds-sound}
+use Rattle.promises.proofs.Sessions.{outcome-is}
 
 abbrev pub buffer : List ℕ
 buffer = replicate (eventsSize width) 0

@@ -9,6 +9,7 @@ use Rattle.common.specs.Counters.{width}
 use Rattle.common.specs.Tests.{upFrom}
 use Rattle.table.specs.Table.{Table, empty, lastOf}
 use Rattle.table.specs.Bytes.{tableSize}
+use Rattle.table.proofs.Zeros.{zeros-empty, zeros-sound}
 use Rattle.runs.specs.Ages.{valueOf}
 use Rattle.locks.specs.Session.{tableAfter, events, numbers}
 use Rattle.locks.proofs.Sessions.{session-numbers}
@@ -16,7 +17,7 @@ use Rattle.promises.specs.Run.{Piece, Covers, begin, noted}
 use Rattle.promises.specs.Among.{Among}
 use Rattle.promises.specs.Seam.{numberAt, Seam}
 use Rattle.promises.proofs.Demand3.{demand3}
-use Rattle.promises.proofs.Sessions.{session-events, zeros-empty, zeros-sound}
+use Rattle.promises.proofs.Sessions.{session-events}
 
 row-length : (a k : ℕ) → length (upFrom a k) ≡ k
 row-length a zero = refl

@@ -1,22 +1,17 @@
 -- Demand 2: a session on bytes is a session of the rules, call by call, and its table stays sound. The thought: a call's bytes decode to the rules' table.
-use Prim.Native.Nat.{ℕ, _+_, _*_, _≤_}
-use mathlib.Core.Bool.{Bool, true, false, _&&_, cond}
-use mathlib.Core.List.{List, [], _∷_, _++_, map}
+use Prim.Native.Nat.{ℕ, _≤_}
+use mathlib.Core.Bool.{Bool, true, false, cond}
+use mathlib.Core.List.{List, _++_}
 use mathlib.Core.Path.{_≡_, refl, sym, ap, ap₂, subst, _∙_}
 use lib.Dec.{T, eqb}
-use lib.ListN.{length, drop, replicate, length-replicate}
-use borrow.Author.Tests.{le-ltb, eq-eqb}
+use lib.ListN.{length}
+use borrow.Author.Tests.{le-ltb}
 use Rattle.common.specs.Counters.{width}
-use Rattle.common.specs.Tests.{zeros}
-use Rattle.common.proofs.Bools.{never, and-left, and-right, true-is}
-use Rattle.xdr.specs.Layout.{fields}
-use Rattle.xdr.specs.Array.{array}
-use Rattle.xdr.specs.Tab.{tab}
-use Rattle.runs.proofs.Blank.{zeros-from, blank, be-blank}
-use Rattle.table.specs.Table.{Table, empty}
+use Rattle.common.proofs.Bools.{never}
+use Rattle.table.specs.Table.{Table}
 use Rattle.table.specs.Sound.{sound}
-use Rattle.table.specs.Bytes.{lockLayout, lockOf, lastsLayout, tableSize, tableOf, recordsEnd, soundTableBytes}
-use Rattle.table.specs.Places.{Holds}
+use Rattle.table.specs.Bytes.{tableOf, soundTableBytes}
+use Rattle.table.proofs.Zeros.{bytes-sound, holds-sound}
 use Rattle.locks.specs.declared.Message.{Message}
 use Rattle.locks.specs.Settle.{Event, settle}
 use Rattle.locks.specs.Refusals.{refusal}
@@ -24,7 +19,6 @@ use Rattle.locks.specs.Serve.{Outcome, change, answered, accepted, refused, ser
 use Rattle.locks.specs.Session.{tableAfter, events}
 use Rattle.locks.specs.Events.{eventsSize}
 use Rattle.locks.proofs.Served.{serve-sound}
-use Rattle.locks.proofs.Sessions.{empty-sound}
 use Rattle.serve.specs.declared.Answer.{Answer}
 use Rattle.serve.specs.Leaves.{Leaves}
 use Rattle.gilboreth.specs.Messages.{outcome, Serves}
@@ -35,19 +29,6 @@ module _ (m : Message) (t b : List ℕ) (s : soundTableBytes t ≡ true) (h : ev
   pub outcome-is : outcome m t b ≡ serve (tableOf width t) m
   unfolding outcome
   outcome-is = rw (le-ltb (length b) (eventsSize width) h, s)
-
-pub bytes-sound : (t : List ℕ) → soundTableBytes t ≡ true → T (sound (tableOf width t))
-unfolding soundTableBytes
-bytes-sound t e =
-    let f = and-right (eqb (length t) (tableSize width)) (sound (tableOf width t) && zeros (drop (recordsEnd width t) t)) e in
-    rw (and-left (sound (tableOf width t)) (zeros (drop (recordsEnd width t) t)) f) tt
-
--- Bytes that hold a sound table are sound
-pub holds-sound : (n : ℕ) (X : Table) (u : List ℕ) → Holds n X u → T (sound X) → soundTableBytes u ≡ true
-unfolding soundTableBytes
-holds-sound n X u H s =
-    rw (eq-eqb (length u) (tableSize width) (H .shape .size), true-is (sound (tableOf width u)) (subst (λ (x : Table). T (sound x)) (sym (H .says)) s))
-    (zeros-from u (recordsEnd width u) (H .shape .zeros))
 
 -- After a call the bytes are sound, and decode to the rules' table
 pub record Follows (X : Table) (u : List ℕ) : Type 0 where
@@ -92,24 +73,3 @@ session-events done s = refl
 session-events (call {t = t} {u = u} {b = b} {c = c} {m = m} {ms = ms} {r = r} {es = es} h L S) s =
     let F = follows m t b r u c s h L in
     ap₂ (λ (x y : List Event). x ++ y) (ap (λ (o : Outcome). o .events) (outcome-is m t b s h)) (session-events S (F .sound) ∙ ap (λ (x : Table). events x ms) (F .says))
-
--- "All zeros is the empty table"
-fields-blank : (ws : List ℕ) (n at o : ℕ) → fields ws (replicate n 0) at o ≡ map (λ w. 0) ws
-unfolding fields
-fields-blank [] n at o = refl
-fields-blank (w ∷ ws) n at o = ap₂ (λ (x : ℕ) (l : List ℕ). x ∷ l) (be-blank w n (at + o)) (fields-blank ws n at (o + w))
-
-pub zeros-empty : (n : ℕ) → tableOf width (replicate n 0) ≡ empty
-unfolding array tab
-zeros-empty n =
-    λ i. record {
-      issued = be-blank 4 n 0 i;
-      lasts = fields-blank (lastsLayout width) n 4 0 i;
-      locks = map lockOf (tab (be-blank 4 n 68 i) (λ k. fields (lockLayout width) (replicate n 0) (72 + 40 * k) 0));
-    }
-
-pub zeros-sound : soundTableBytes (replicate (tableSize width) 0) ≡ true
-unfolding soundTableBytes
-zeros-sound =
-    rw (eq-eqb (length (replicate {A = ℕ} (tableSize width) 0)) (tableSize width) (length-replicate {A = ℕ} (tableSize width) 0), true-is (sound (tableOf width (replicate (tableSize width) 0))) (subst (λ (x : Table). T (sound x)) (sym (zeros-empty (tableSize width))) empty-sound))
-    (zeros-from (replicate (tableSize width) 0) (recordsEnd width (replicate (tableSize width) 0)) (λ b _. blank (tableSize width) b))

@@ -10,6 +10,7 @@ use borrow.Author.Tests.{eq-eqb}
 use Rattle.common.specs.Counters.{width}
 use Rattle.common.specs.Tests.{zeros}
 use Rattle.common.proofs.Bools.{and-left, and-right}
+use Rattle.common.proofs.Blank.{zeros-from, blank}
 use Rattle.xdr.specs.Be.{Bytes, be}
 use Rattle.xdr.specs.Layout.{fields, Fit}
 use Rattle.xdr.specs.Array.{array, arraySize, Fits}
@@ -23,7 +24,6 @@ use Rattle.runs.specs.Sound.{allValid, soundMap}
 use Rattle.runs.specs.Valid.{Valid}
 use Rattle.runs.specs.Bytes.{runLayout, runOf, runFields, runsOf, mapSize, runPlace, runsEnd, soundMapBytes, bytesOf, mapBytes}
 use Rattle.runs.proofs.Ages.{highestAge, age-fits, fits-age}
-use Rattle.runs.proofs.Blank.{zeros-from, blank}
 use Rattle.runs.proofs.Over.{over-is}
 use Rattle.runs.proofs.Canon.{Canon, none, next, canon-head}
 use Rattle.runs.proofs.Valid.{valid-head, valid-rest}

@@ -1,11 +1,12 @@
--- A request that is not refused: what its rows passed says that the new record fits, and the stores make the change of the rules.
+-- A request that is not refused: what its rows allow says that the new record fits, and the stores make the change of the rules.
 use Prim.Native.Nat.{ℕ, _+_, _^_, _≤_, _<_}
 use native.Mathlib.Omega.{arith}
 use mathlib.Core.List.{List, [], _∷_, _++_}
 use mathlib.Core.Path.{_≡_, sym, ap, _∙_}
-use lib.Dec.{T, leb→le, nleb→lt, nltb→le}
+use lib.Dec.{T, leb, leb→le, nleb→lt, nltb→le}
 use lib.ListN.{length}
 use Rattle.common.specs.Counters.{width, highest}
+use Rattle.common.specs.Ranges.{range, eof}
 use Rattle.common.specs.Refusals.{firstHit}
 use Rattle.common.proofs.Bools.{and-l, and-r, undo}
 use Rattle.common.proofs.Order.{eq→eqb}
@@ -13,13 +14,12 @@ use Rattle.common.proofs.Refusals.{unbroken}
 use Rattle.modes.specs.Codes.{knownMode}
 use Rattle.table.specs.Table.{Table, maxClient, maxStripe, maxRecords}
 use Rattle.table.specs.Bytes.{locksOf, tableOf}
-use Rattle.table.specs.Places.{FitsTable, Holds, withIssued, withLocks}
+use Rattle.table.specs.Places.{ShownFits, Holds, Good, withIssued, withLocks}
 use Rattle.table.proofs.Records.{locks-length}
 use Rattle.locks.specs.declared.Message.{Message}
 use Rattle.locks.specs.declared.Message.the-variants.{Request}
 use Rattle.locks.specs.Refusals.{requestRules, rules}
 use Rattle.locks.specs.Serve.{asking, change, answered}
-use Rattle.settle.specs.Posts.{Good}
 use Rattle.serve.specs.declared.Answer.{Answer}
 use Rattle.serve.specs.Posts.{OnSound, Ends}
 use Rattle.serve.proofs.Ending.{message-refused, message-good, message-served}
@@ -41,17 +41,20 @@ module _ (n c s m f l k : ℕ) (t : List ℕ) (p : k ≡ firstHit (requestRules 
 
   -- it answers 0, and e handles are issued
   module _ (G : Good n t) (z : k ≡ 0) (e : ℕ) (q : e ≡ tableOf width t .issued) where
-    pub record Passed : Type 0 where
+    pub record Allowed : Type 0 where
       pub client : c ≤ 63
       pub stripe : s ≤ 15
       pub mode : m ≤ 4
-      pub handle : e + 1 < 2 ^ 32
+      pub handle : e + 1 < 256 ^ width
+      pub ordered : f ≤ l
+      pub ends : l ≤ eof
       pub room : n < 256
 
-    pub passed : Passed
-    passed =
+    pub allowed : Allowed
+    allowed =
         let u = unbroken (requestRules (tableOf width t) c s m f l) tt (eq→eqb (firstHit (requestRules (tableOf width t) c s m f l)) 0 (sym p ∙ z)) in
         let w : T (knownMode m) = undo (knownMode m) (search (and-l, and-r) depth 8) in
+        let g : T (range f l) = undo (range f l) (search (and-l, and-r) depth 8) in
         let i = nleb→lt (highest width) (tableOf width t .issued) (search (and-l, and-r) depth 8) in
         let r = nleb→lt maxRecords (length (locksOf width t)) (search (and-l, and-r) depth 8) in
         let d = G .shape .count in
@@ -60,11 +63,13 @@ module _ (n c s m f l k : ℕ) (t : List ℕ) (p : k ≡ firstHit (requestRules 
           stripe = nltb→le maxStripe s (search (and-l, and-r));
           mode = search (and-r, leb→le);
           handle = omega arith;
+          ordered = leb→le f l (and-l (leb f l) (leb l eof) g);
+          ends = leb→le l eof (and-r (leb f l) (leb l eof) g);
           room = omega (arith, locks-length t);
         }
 
-    pub request-fits : FitsTable (asking (e + 1) c s m f l)
-    request-fits = let g = passed in record { handle = omega arith; client = omega arith; stripe = omega arith; mode = omega arith; state = omega arith; number = omega arith }
+    pub request-fits : ShownFits (asking (e + 1) c s m f l)
+    request-fits = let g = allowed in (omega arith, (omega arith, (omega arith, (omega arith, (omega arith, (omega arith, (omega arith, (omega arith, tt))))))))
 
     -- the handle is issued, which leaves u; the record is added, which leaves v
     module _ (u v : List ℕ) (H : Holds n (withIssued (tableOf width t) (e + 1)) u) (K : Holds (n + 1) (withLocks (tableOf width u) (locksOf width u ++ (asking (e + 1) c s m f l ∷ []))) v) where

@@ -15,10 +15,10 @@ use Rattle.table.specs.declared.Lock.{Lock}
 use Rattle.table.specs.Table.{Table, nth, maxClient}
 use Rattle.table.specs.Sound.{sound}
 use Rattle.table.specs.Bytes.{locksOf, tableOf}
-use Rattle.table.specs.Places.{lockAt}
+use Rattle.table.specs.Places.{lockAt, Good, First}
+use Rattle.table.proofs.Records.{inside, nth-is}
+use Rattle.table.proofs.Scan.{scan-end}
 use Rattle.locks.specs.Refusals.{named, namingRules}
-use Rattle.settle.specs.Posts.{Good, First}
-use Rattle.settle.proofs.Scan.{inside, nth-is, scan-end}
 use Rattle.serve.specs.declared.Found.{Found}
 use Rattle.serve.specs.Posts.{has, Finds}
 use Rattle.serve.proofs.Alone.{one-any}

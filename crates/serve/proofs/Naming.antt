@@ -13,20 +13,19 @@ use Rattle.common.proofs.Bools.{and-l, and-both, and-false, true-is}
 use Rattle.table.specs.declared.Lock.{Lock}
 use Rattle.table.specs.Table.{Table, nth}
 use Rattle.table.specs.Bytes.{locksOf, tableOf}
-use Rattle.table.specs.Places.{lockAt, FitsTable, Shape, Holds, withLock, withLocks, without}
-use Rattle.table.proofs.Records.{locks-length}
+use Rattle.table.specs.Places.{lockAt, ShownFits, Shape, Holds, Good, withLock, withLocks, without}
+use Rattle.table.proofs.Records.{locks-length, inside, nth-is}
+use Rattle.table.proofs.Fitting.{remade-fits}
+use Rattle.modes.specs.Codes.{nbw, canceling}
 use Rattle.locks.specs.declared.Message.{Message}
 use Rattle.locks.specs.declared.Message.the-variants.{Release}
 use Rattle.locks.specs.Refusals.{named, namingRules, rules}
 use Rattle.locks.specs.Serve.{change, answered}
-use Rattle.settle.specs.Posts.{Good}
-use Rattle.settle.proofs.Scan.{inside, nth-is}
-use Rattle.settle.proofs.Granting.{given-fits}
 use Rattle.serve.specs.declared.Answer.{Answer}
 use Rattle.serve.specs.declared.Found.{Found}
 use Rattle.serve.specs.declared.Becomes.{Becomes}
 use Rattle.serve.specs.declared.Becomes.the-variants.{Canceling, Nbw}
-use Rattle.serve.specs.Posts.{OnSound, Ends, Finds, asks, ready, remade}
+use Rattle.serve.specs.Posts.{OnSound, Ends, Finds, asks, ready, becoming}
 use Rattle.serve.proofs.Ending.{message-refused, message-good, message-served}
 use Rattle.serve.proofs.Alone.{one-keep, one-map}
 use Rattle.serve.proofs.Finding.{has-named, found-none, found-one}
@@ -46,7 +45,7 @@ unfolding rules answered
 remakes Canceling c h = record { rows = λ X. refl; strong = λ r u. and-l (named c h r) (ready Canceling r) u; says = λ X. refl }
 remakes Nbw c h = record { rows = λ X. refl; strong = λ r u. and-l (named c h r) (ready Nbw r) u; says = λ X. refl }
 
-changes : (to : Becomes) (c h : ℕ) (X : Table) → change X (asks to c h) ≡ withLocks X (map (λ r. cond (may to c h r) (remade to r) r) (X .locks))
+changes : (to : Becomes) (c h : ℕ) (X : Table) → change X (asks to c h) ≡ withLocks X (map (λ r. cond (may to c h r) (becoming to r) r) (X .locks))
 unfolding change
 changes Canceling c h X = refl
 changes Nbw c h X = refl
@@ -92,7 +91,7 @@ module _ (n c h : ℕ) (t : List ℕ) (G : Good n t) (f : Found) (F : Finds n (t
         becomes-served : (b : List ℕ) (r : Answer) (v w : List ℕ) → Ends h (tableOf width u) b r v w → OnSound m t b r v w
         becomes-served b r v w E = message-served m t (sym (by-11 true y)) k u S e h b r v w (sym (N .says X)) E
 
-    -- l is the record, to be remade
+    -- l is the record, which is to become another
     module _ (l : Lock) (e : l ≡ lockAt t i) (to : Becomes) where
       it : nth X i ≡ l
       it = nth-is n i t l (G .shape) is-there e
@@ -103,7 +102,7 @@ module _ (n c h : ℕ) (t : List ℕ) (G : Good n t) (f : Found) (F : Finds n (t
           (by-11 (asks to c h) (may to c h) (remakes to c h) false (ap (λ (x : Bool). named c h (nth X i) && x) (ap (ready to) it ∙ p) ∙ and-false (named c h (nth X i)))) (λ (w : _≡_ {A = ℕ} 11 0). omega arith) q
 
       -- q is what it becomes, which leaves u
-      module _ (p : ready to l ≡ true) (q : Lock) (d : q ≡ remade to l) (u : List ℕ) (H : Holds n (withLock X i q) u) where
+      module _ (p : ready to l ≡ true) (q : Lock) (d : q ≡ becoming to l) (u : List ℕ) (H : Holds n (withLock X i q) u) where
         allowed : may to c h (nth X i) ≡ true
         allowed = and-both (named c h (nth X i)) (ready to (nth X i)) its (ap (ready to) it ∙ p)
 
@@ -111,8 +110,8 @@ module _ (n c h : ℕ) (t : List ℕ) (G : Good n t) (f : Found) (F : Finds n (t
         made =
             H .says
             ∙ sym (changes to c h X
-            ∙ ap (withLocks X) (one-map X i h (G .sounds) (inside n i t (G .shape) is-there) (has-named c h (nth X i) (F .its z)) (may to c h) (λ r v. has-named c h r (remakes to c h .strong r v)) (remade to) allowed)
-            ∙ ap (withLock X i) (ap (remade to) it ∙ sym d))
+            ∙ ap (withLocks X) (one-map X i h (G .sounds) (inside n i t (G .shape) is-there) (has-named c h (nth X i) (F .its z)) (may to c h) (λ r v. has-named c h r (remakes to c h .strong r v)) (becoming to) allowed)
+            ∙ ap (withLock X i) (ap (becoming to) it ∙ sym d))
 
         pub made-good : Good n u
         made-good = becomes-good (asks to c h) (may to c h) (remakes to c h) allowed n u (H .shape) made
@@ -135,6 +134,6 @@ module _ (n c h : ℕ) (t : List ℕ) (G : Good n t) (f : Found) (F : Finds n (t
       pub gone-served : (b : List ℕ) (r : Answer) (v w : List ℕ) → Ends h (tableOf width u) b r v w → OnSound (Release c h) t b r v w
       gone-served b r v w E = becomes-served (Release c h) (named c h) (releases c h) its (n - 1) u (H .shape) gone b r v w E
 
-pub remade-fits : (to : Becomes) (l q : Lock) → q ≡ remade to l → FitsTable l → FitsTable q
-remade-fits Canceling l q e f = given-fits l q 3 (omega arith) e f
-remade-fits Nbw l q e f = rw e (record { handle = f .handle; client = f .client; stripe = f .stripe; mode = omega arith; state = f .state; number = f .number })
+pub becoming-fits : (to : Becomes) (l q : Lock) → q ≡ becoming to l → ShownFits l → ShownFits q
+becoming-fits Canceling l q e f = remade-fits (l .mode) canceling l q (f .1 .1 .1 .0) (omega arith) e f
+becoming-fits Nbw l q e f = remade-fits nbw (l .state) l q (omega arith) (f .1 .1 .1 .1 .0) e f

@@ -49,6 +49,6 @@ abbrev pub ready : Becomes → Lock → Bool
 ready Canceling r = eqb (r .state) asked
 ready Nbw r = eqb (r .state) canceling && within bw (r .mode) pw
 
-abbrev pub remade : Becomes → Lock → Lock
-remade Canceling r = inState canceling r
-remade Nbw r = downgraded r
+abbrev pub becoming : Becomes → Lock → Lock
+becoming Canceling r = inState canceling r
+becoming Nbw r = downgraded r

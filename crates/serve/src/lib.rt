@@ -20,13 +20,11 @@ ghost use lib.ListN.{length};
 ghost use Rattle.common.specs.Counters.{width};
 ghost use Rattle.common.specs.Refusals.{firstHit};
 ghost use Rattle.table.specs.Bytes.{locksOf, tableOf};
-ghost use Rattle.table.specs.Places.{countOf, Shape};
+ghost use Rattle.table.specs.Places.{countOf, Shape, Good, First};
 ghost use Rattle.locks.specs.declared.Message.the-variants.{Request, Release};
 ghost use Rattle.locks.specs.Refusals.{requestRules};
-ghost use Rattle.locks.specs.Serve.{downgraded};
 ghost use Rattle.locks.specs.Events.{eventsSize};
-ghost use Rattle.settle.specs.Posts.{Good, First};
-ghost use Rattle.serve.specs.Posts.{OnSound, Ends, has, Finds, asks, ready, remade};
+ghost use Rattle.serve.specs.Posts.{OnSound, Ends, has, Finds, asks, ready, becoming};
 
 // What a call answers: its refusal or 0, the handle that it made or named, and how many events it wrote.
 #[repr(C)]
@@ -47,12 +45,13 @@ pub fn refused(k: u64) -> Answer
     }
 }
 
-// Settles the changed table and answers the handle h.
+// Settles the changed table, stores how many events there are, and answers the handle h.
 fn finish(t: &mut [u8], b: &mut [u8], n: usize, h: Handle) -> Answer
     requires { ⌜ Good n (now t) × (eventsSize width ≤ length (now b)) ⌝ }
     ensures { λ r. ⌜ Ends (h .0) (tableOf width (now (t .entry))) (now (b .entry)) r (now (t .exit)) (now (b .exit)) ⌝ }
 {
-    let k = settle::settle(t, b, n);
+    let k = settle::settle(t, b, n, 0);
+    xdr::put_u32(b, 0, k as u64);
     Answer {
         refusal: 0,
         handle: h.0,
@@ -134,7 +133,7 @@ fn find(t: &[u8], n: usize, h: Handle) -> usize
     ensures { λ r. ⌜ First (has (h .0)) n (locksOf width (now (t .entry))) r ⌝ }
 {
     for i in 0..n {
-        if settle::handle_at(t, i).0 == h.0 {
+        if table::handle_at(t, i).0 == h.0 {
             return i;
         }
     }
@@ -194,31 +193,13 @@ fn ready(l: Lock, to: Becomes) -> bool
     }
 }
 
-// Makes of l the same record in mode NBW.
-fn downgraded(l: Lock) -> Lock
-    ensures { λ r. ⌜ r ≡ downgraded l ⌝ }
-{
-    let h = l.handle;
-    let v = l.number;
-    Lock {
-        handle: h,
-        client: l.client,
-        stripe: l.stripe,
-        mode: NBW,
-        state: l.state,
-        number: v,
-        first: l.first,
-        last: l.last,
-    }
-}
-
 // Makes of l what it becomes.
-fn remade(l: Lock, to: Becomes) -> Lock
-    ensures { λ r. ⌜ r ≡ remade to l ⌝ }
+fn becoming(l: Lock, to: Becomes) -> Lock
+    ensures { λ r. ⌜ r ≡ becoming to l ⌝ }
 {
     match to {
-        Becomes::Canceling => settle::given(l, CANCELING, l.number, l.last),
-        Becomes::Nbw => downgraded(l),
+        Becomes::Canceling => table::remade(l, l.mode, CANCELING, l.number, l.last),
+        Becomes::Nbw => table::remade(l, NBW, l.state, l.number, l.last),
     }
 }
 
@@ -235,7 +216,7 @@ fn remake(t: &mut [u8], b: &mut [u8], n: usize, client: u64, handle: Handle, to:
     if !ready(l, to) {
         return refused(11);
     }
-    table::put_lock(t, n, f.place, remade(l, to));
+    table::put_lock(t, n, f.place, becoming(l, to));
     finish(t, b, n, handle)
 }
 

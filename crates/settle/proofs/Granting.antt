@@ -3,52 +3,31 @@ use Prim.Native.Nat.{ℕ, suc, _+_, _^_, _<_}
 use native.Mathlib.Omega.{arith}
 use mathlib.Core.Bool.{Bool, true, false, not, _&&_, cond}
 use mathlib.Core.List.{List, [], _∷_, _++_}
-use mathlib.Core.Logic.{⊎-elim}
 use mathlib.Core.Path.{_≡_, refl, sym, ap, ap₂, subst, _∙_}
-use lib.Dec.{T, not-T, leb→le, le→leb, ltb, ltb→lt}
+use lib.Dec.{T, not-T, le→leb, ltb, ltb→lt}
 use lib.ListN.{getD, take, drop}
 use lib.Seq.{split-at}
 use Rattle.common.specs.Counters.{width}
 use Rattle.common.specs.Ranges.{eof}
-use Rattle.common.specs.Tests.{all, any, count}
-use Rattle.common.proofs.Bools.{and-l, and-i, nand-l, nand-r, false-is, by-cond, cond-true, either}
+use Rattle.common.specs.Tests.{all, any}
+use Rattle.common.proofs.Bools.{and-l, and-i, nand-l, nand-r, false-is, by-cond, cond-true}
 use Rattle.common.proofs.Listed.{all-at, all-imp, nobody, pairs-before}
-use Rattle.common.proofs.Scans.{all-from}
 use Rattle.modes.specs.Codes.{granted, canceling}
 use Rattle.table.specs.declared.Lock.{Lock}
-use Rattle.table.specs.Table.{Table, blank, handleOf, numberOf, waits, held, writes}
-use Rattle.table.specs.Sound.{valid, agree, room, wants}
+use Rattle.table.specs.Table.{Table, blank, handleOf, numberOf, waits, stripeCount}
+use Rattle.table.specs.Sound.{valid, agree}
 use Rattle.table.specs.Bytes.{locksOf, tableOf}
-use Rattle.table.specs.Places.{lockAt, FitsTable, Holds, withLock}
+use Rattle.table.specs.Places.{lockAt, ShownFits, Holds, Good, Moded, moded, Past, withLock}
 use Rattle.table.proofs.Facts.{Valid, valid→, Sound, sound→}
+use Rattle.table.proofs.Fitting.{lock-fits}
+use Rattle.table.proofs.Records.{inside, nth-is}
 use Rattle.locks.specs.Conflicts.{conflicts, hurries}
 use Rattle.locks.specs.Settle.{Settled, grantEvent, given, widest, nextNumber, lastsAfter, grant, free, granting, turn}
 use Rattle.locks.proofs.Turn.{w-valid-here, grant-sound}
-use Rattle.settle.specs.Posts.{Good, moded, Fair, Past, grantedAs, Took, Due, putEvents, fresh, Did}
-use Rattle.settle.proofs.Scan.{inside, nth-is}
+use Rattle.settle.specs.Posts.{grantedAs, Took, Due, putEvents, fresh, Did}
 
--- a record of a sound table fits
-pub fits : (issued : ℕ) (lasts : List ℕ) (before : List Lock) (r : Lock) (after : List Lock) → Sound issued lasts (before ++ (r ∷ after)) → FitsTable r
-unfolding room
-fits issued lasts before r after S =
-    let rs : List Lock = before ++ (r ∷ after) in
-    let v = valid→ issued lasts r (all-at (valid issued lasts) before r after (S .each)) in
-    let last = leb→le (getD lasts (r .stripe) 0 + count (wants (r .stripe)) rs) issued (all-from (room issued lasts rs) 16 0 (r .stripe) (S .rooms) (omega arith) (omega arith)) in
-    record {
-      handle = omega arith;
-      client = omega arith;
-      stripe = omega arith;
-      mode = omega arith;
-      state = omega arith;
-      number = ⊎-elim (λ (h : T (held r && writes r)). let n = v .number-of h in omega arith) (λ (h : T (not (held r && writes r))). let n = v .number-no h in omega arith) (either (held r && writes r));
-    }
-
--- in another state it fits as well
-pub given-fits : (r q : Lock) (s : ℕ) → s < 2 ^ 32 → q ≡ given r s (numberOf r) (r .last) → FitsTable r → FitsTable q
-given-fits r q s h e f = rw e (record { handle = f .handle; client = f .client; stripe = f .stripe; mode = f .mode; state = h; number = f .number })
-
-pub good-fair : (n : ℕ) (t : List ℕ) → Good n t → Fair n t
-good-fair n t G = record {
+pub good-moded : (n : ℕ) (t : List ℕ) → Good n t → Moded n t
+good-moded n t G = record {
   shape = G .shape;
   modes = all-imp (valid (T .issued) (T .lasts)) moded (λ r u. let v = valid→ (T .issued) (T .lasts) r u in search (and-i, le→leb)) (T .locks) (sound→ T (G .sounds) .each);
 }
@@ -104,25 +83,28 @@ module _ (n i : ℕ) (w : Lock) (t : List ℕ) (D : Due n i w t) where
       false-is (any (hurries w) (take i rs))
       (nobody (hurries w) (take i rs) (all-imp (λ r. agree r w) (λ r. not (hurries w r)) (earlier w) (take i rs) (pairs-before agree (take i rs) w (drop (suc i) rs) (sounds .apart))))
 
-  pub due-stripe : w .stripe < 16
+  pub due-stripe : w .stripe < stripeCount
   due-stripe = let v = valid-here in omega arith
 
-  due-fits : FitsTable (grant lasts rs w)
+  due-fits : ShownFits (grant lasts rs w)
   due-fits =
-      subst (λ (l : List Lock). FitsTable (grant lasts l w)) (sym split)
-      (fits (tableOf width t .issued) (lastsAfter lasts w) (take i rs) (grant lasts around w) (drop (suc i) rs)
-      (grant-sound (tableOf width t .issued) lasts (take i rs) w (drop (suc i) rs) sounds freed))
+      subst (λ (l : List Lock). ShownFits (grant lasts l w)) (sym split)
+      (lock-fits (tableOf width t .issued) (lastsAfter lasts w) (take i rs ++ (grant lasts around w ∷ drop (suc i) rs)) after (grant lasts around w)
+      (all-at (valid (tableOf width t .issued) (lastsAfter lasts w)) (take i rs) (grant lasts around w) (drop (suc i) rs) (after .each)))
+    where
+      after : Sound (tableOf width t .issued) (lastsAfter lasts w) (take i rs ++ (grant lasts around w ∷ drop (suc i) rs))
+      after = grant-sound (tableOf width t .issued) lasts (take i rs) w (drop (suc i) rs) sounds freed
 
-  pub due-number : nextNumber lasts w < 2 ^ 32
-  due-number = subst (λ (m : ℕ). m < 2 ^ 32) (number-is lasts rs w) (due-fits .number)
+  pub due-number : nextNumber lasts w < 256 ^ width
+  due-number = subst (λ (m : ℕ). m < 256 ^ width) (number-is lasts rs w) (due-fits .1 .1 .1 .1 .1 .0)
 
   -- the number v is taken, which leaves u; w becomes g
   module _ (v : ℕ) (u : List ℕ) (g : Lock) (K : Took n w (tableOf width t) v u) where
     same-locks : locksOf width u ≡ rs
     same-locks = ap (λ (X : Table). X .locks) (K .table .says)
 
-    pub due-fair : Fair n u
-    due-fair = record { shape = K .table .shape; modes = subst (λ (l : List Lock). T (all moded l)) (sym same-locks) (good-fair n t (D .good) .modes) }
+    pub due-moded : Moded n u
+    due-moded = record { shape = K .table .shape; modes = subst (λ (l : List Lock). T (all moded l)) (sym same-locks) (good-moded n t (D .good) .modes) }
 
     pub due-here : w ≡ lockAt u i
     due-here = sym (D .is) ∙ ap (λ (l : List Lock). getD l i blank) (sym same-locks) ∙ nth-is n i u (lockAt u i) (K .table .shape) (D .place) refl
@@ -138,8 +120,8 @@ module _ (n i : ℕ) (w : Lock) (t : List ℕ) (D : Due n i w t) where
       unfolding grant
       as-granted = q ∙ ap₂ (λ (l : List Lock) (m : ℕ). grantedAs l w m) same-locks (K .number)
 
-      pub granted-fits : FitsTable g
-      granted-fits = subst FitsTable (sym as-granted) due-fits
+      pub granted-fits : ShownFits g
+      granted-fits = subst ShownFits (sym as-granted) due-fits
 
       pub due-did : (k : ℕ) (b u′ c : List ℕ) → Holds n (withLock (tableOf width u) i g) u′ → c ≡ putEvents b k (grantEvent g ∷ []) → Did n k (turn i (fresh (tableOf width t))) b (k + 1) u′ c
       unfolding turn

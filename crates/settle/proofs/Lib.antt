@@ -1,8 +1,3 @@
-pub mod Tests
-pub mod Passing
-pub mod Scan
-pub mod Known
-pub mod Widths
 pub mod Taking
 pub mod Written
 pub mod Granting

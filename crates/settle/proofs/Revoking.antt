@@ -5,31 +5,23 @@ use mathlib.Core.Bool.{Bool, true, false, not, _&&_}
 use mathlib.Core.List.{List, [], _∷_}
 use mathlib.Core.Path.{_≡_, refl, sym, ap, subst, _∙_}
 use lib.Dec.{T, eqb}
-use lib.ListN.{length, take}
+use lib.ListN.{length}
 use borrow.Author.Tests.{ne-eqb, not-true, not-false}
 use Rattle.common.specs.Counters.{width}
 use Rattle.common.specs.Tests.{any}
 use Rattle.common.proofs.Bools.{and-i, true-is, and-false}
 use Rattle.common.proofs.Order.{eq→eqb}
-use Rattle.common.proofs.Scans.{none-imp}
 use Rattle.modes.specs.Codes.{granted}
 use Rattle.table.specs.declared.Lock.{Lock}
-use Rattle.table.specs.Table.{waits, numberOf}
+use Rattle.table.specs.Table.{numberOf}
 use Rattle.table.specs.Bytes.{locksOf, tableOf}
-use Rattle.table.specs.Places.{lockAt, FitsTable, Shape, Holds, withLock}
-use Rattle.locks.specs.Conflicts.{conflicts}
+use Rattle.table.specs.Places.{lockAt, ShownFits, Shape, Holds, withLock}
+use Rattle.table.proofs.Fitting.{state-fits}
+use Rattle.table.proofs.Records.{nth-is}
 use Rattle.locks.specs.Settle.{revocation, given, presses, wanted}
-use Rattle.settle.specs.Posts.{Past, putEvents, Did, revokeAt, Wanted}
-use Rattle.settle.proofs.Granting.{given-fits}
-use Rattle.settle.proofs.Scan.{nth-is}
+use Rattle.locks.specs.Events.{Room}
+use Rattle.settle.specs.Posts.{putEvents, Did, revokeAt, Wanted}
 use Rattle.settle.proofs.Written.{did-none}
-
--- who waits not, presses not
-pub rests : (r x : Lock) → waits x ≡ false → presses r x ≡ false
-rests r x e = ap (λ (b : Bool). b && conflicts x r) e
-
-pub none-press : (n i : ℕ) (rs : List Lock) (r : Lock) → Past waits n rs i → Past (presses r) n rs i
-none-press n i rs r s = record { most = s .most; none = none-imp waits (presses r) (rests r) (take i rs) (s .none) }
 
 -- one place
 module _ (n i : ℕ) (t : List ℕ) (S : Shape n t) (h : i < n) where
@@ -50,7 +42,7 @@ module _ (n i : ℕ) (t : List ℕ) (S : Shape n t) (h : i < n) where
     pub revoke-free : (k : ℕ) (b : List ℕ) → not x ≡ true → Did n k (revokeAt i (tableOf width t)) b k t b
     revoke-free k b q = spared k b (ap (λ (y : Bool). eqb (r .state) granted && y) (sym p ∙ not-true x q) ∙ and-false (eqb (r .state) granted))
 
-    pub revoke-wanted : (s : ℕ) (v : Lock) → s ≡ r .state → s ≡ 1 → not x ≡ false → v ≡ r → FitsTable v → Wanted n i v t
+    pub revoke-wanted : (s : ℕ) (v : Lock) → s ≡ r .state → s ≡ 1 → not x ≡ false → v ≡ r → ShownFits v → Wanted n i v t
     revoke-wanted s v e z q f g = record {
       shape = S;
       place = h;
@@ -59,13 +51,13 @@ module _ (n i : ℕ) (t : List ℕ) (S : Shape n t) (h : i < n) where
       wanted = rw f (and-i (eqb (r .state) granted) (any (presses r) rs) (eq→eqb (r .state) 1 (sym e ∙ z)) (subst T (sym (sym p ∙ not-false x q)) tt));
     }
 
-pub revoke-room : (n i k : ℕ) (r : Lock) (t : List ℕ) → Wanted n i r t → k + length (revokeAt i (tableOf width t) .events) ≤ 256 → k < 256
+pub revoke-room : (n i k : ℕ) (r : Lock) (t b : List ℕ) → Wanted n i r t → Room (k + length (revokeAt i (tableOf width t) .events)) b → Room (k + 1) b
 unfolding revokeAt
-revoke-room n i k r t W h = let g = rw (W .is, true-is (wanted (locksOf width t) r) (W .wanted)) at h in omega arith
+revoke-room n i k r t b W h = rw (W .is, true-is (wanted (locksOf width t) r) (W .wanted)) at h
 
 module _ (n i : ℕ) (r q : Lock) (t : List ℕ) (W : Wanted n i r t) (e : q ≡ given r 2 (numberOf r) (r .last)) where
-  pub ask-fits : FitsTable q
-  ask-fits = given-fits r q 2 (omega arith) e (W .fits)
+  pub ask-fits : ShownFits q
+  ask-fits = state-fits 2 r q (omega arith) e (W .fits)
 
   pub ask-did : (k : ℕ) (b u c : List ℕ) → Holds n (withLock (tableOf width t) i q) u → c ≡ putEvents b k (revocation q ∷ []) → Did n k (revokeAt i (tableOf width t)) b (k + 1) u c
   unfolding revokeAt

@@ -17,14 +17,14 @@ use Rattle.modes.specs.Codes.{granted, asked}
 use Rattle.table.specs.declared.Lock.{Lock}
 use Rattle.table.specs.Table.{Table, blank, waits}
 use Rattle.table.specs.Bytes.{locksOf, tableOf}
-use Rattle.table.specs.Places.{Shape, withLock, withLocks}
-use Rattle.table.proofs.Records.{locks-length}
-use Rattle.locks.specs.Settle.{Event, Settled, revocation, inState, presses, wanted, revoked, revoke}
+use Rattle.table.specs.Places.{Shape, Moded, moded, Past, First, withLock, withLocks}
+use Rattle.table.proofs.Records.{locks-length, inside}
+use Rattle.locks.specs.Settle.{Event, Settled, revocation, inState, presses, wanted, revoked, revocations, revoke}
+use Rattle.conflicts.proofs.Tests.{rests}
 use Rattle.locks.proofs.Revoked.{waits-same, presses-same}
-use Rattle.settle.specs.Posts.{moded, Fair, Past, First, fresh, Did, revokeAt}
-use Rattle.settle.proofs.Scan.{inside}
-use Rattle.settle.proofs.Revoking.{rests}
-use Rattle.settle.proofs.Written.{did-none, after, did-then}
+use Rattle.locks.specs.Events.{Room}
+use Rattle.settle.specs.Posts.{fresh, Did, revokeAt}
+use Rattle.settle.proofs.Written.{did-none, andThen, did-then}
 
 -- the records of X, of which the first i are revoked where they are wanted, and their events
 abbrev pub sofar : Table → ℕ → Settled
@@ -33,7 +33,7 @@ sofar X i = record { table = withLocks X (partly (revoked (X .locks)) (X .locks)
 wanted-same : (rs : List Lock) (i : ℕ) (r : Lock) → wanted (partly (revoked rs) rs i) r ≡ wanted rs r
 wanted-same rs i r = ap (λ (b : Bool). eqb (r .state) granted && b) (partly-any (revoked rs) (presses r) (presses-same rs r) rs i)
 
-sofar-on : (X : Table) (i : ℕ) → i < length (X .locks) → sofar X (suc i) ≡ after (sofar X i) (revokeAt i (sofar X i .table))
+sofar-on : (X : Table) (i : ℕ) → i < length (X .locks) → sofar X (suc i) ≡ andThen (sofar X i) (revokeAt i (sofar X i .table))
 unfolding revokeAt
 sofar-on X i h =
     rw (partly-here (revoked rs) blank rs i, wanted-same rs i x, ← partly-more (revoked rs) blank rs i h, keep-more (wanted rs) blank rs i h, map-append (λ r. revocation (inState asked r)))
@@ -56,7 +56,7 @@ sofar-on X i h =
 
     go : (b : Bool) → set P i x ≡ P
         → _≡_ {A = Settled} (record { table = withLocks X (set P i (cond b (inState asked x) x)); events = E ++ map (λ r. revocation (inState asked r)) (cond b (x ∷ []) []) })
-        (after (sofar X i) (cond b (record { table = withLock (sofar X i .table) i (inState asked x); events = revocation (inState asked x) ∷ [] }) (fresh (sofar X i .table))))
+        (andThen (sofar X i) (cond b (record { table = withLock (sofar X i .table) i (inState asked x); events = revocation (inState asked x) ∷ [] }) (fresh (sofar X i .table))))
     go true e = refl
     go false e = λ k. record { table = withLocks X (e k); events = E ++ [] }
 
@@ -79,8 +79,8 @@ module _ (n : ℕ) (t : List ℕ) (S : Shape n t) where
     now-rows : locksOf width u ≡ partly (revoked rows) rows i
     now-rows = ap (λ (X : Table). X .locks) (D .table .says)
 
-    pub sofar-fair : T (all moded rows) → Fair n u
-    sofar-fair m = record {
+    pub sofar-moded : T (all moded rows) → Moded n u
+    sofar-moded m = record {
       shape = D .table .shape;
       modes = subst (λ (l : List Lock). T (all moded l)) (sym now-rows) (partly-keeps (revoked rows) moded (λ x v. by-cond (λ (y : Lock). T (moded y)) (wanted rows x) (inState asked x) x (λ w. v) (λ w. v)) rows i m);
     }
@@ -92,20 +92,21 @@ module _ (n : ℕ) (t : List ℕ) (S : Shape n t) where
     }
 
     module _ (h : i < n) where
-      on : sofar (tableOf width t) (suc i) ≡ after (sofar (tableOf width t) i) (revokeAt i (tableOf width u))
-      on = sofar-on (tableOf width t) i (inside n i t S h) ∙ ap (λ (X : Table). after (sofar (tableOf width t) i) (revokeAt i X)) (sym (D .table .says))
+      on : sofar (tableOf width t) (suc i) ≡ andThen (sofar (tableOf width t) i) (revokeAt i (tableOf width u))
+      on = sofar-on (tableOf width t) i (inside n i t S h) ∙ ap (λ (X : Table). andThen (sofar (tableOf width t) i) (revokeAt i X)) (sym (D .table .says))
 
       pub sofar-more : (r : ℕ) (v d : List ℕ) → Did n k (revokeAt i (tableOf width u)) c r v d → Did n j (sofar (tableOf width t) (i + 1)) b r v d
       sofar-more r v d E = rw add-one (subst (λ (s : Settled). Did n j s b r v d) (sym on) (did-then n j k r (sofar (tableOf width t) i) (revokeAt i (tableOf width u)) b u c v d D E))
 
-      pub sofar-room : j + length (keep (wanted rows) rows) ≤ 256 → k + length (revokeAt i (tableOf width u) .events) ≤ 256
-      sofar-room m =
-          let e = ap (λ (s : Settled). length (s .events)) on in
+      pub sofar-room : (e : List ℕ) → length c ≡ length e → Room (j + length (revocations rows)) e → Room (k + length (revokeAt i (tableOf width u) .events)) c
+      sofar-room e l m =
+          let p = ap (λ (s : Settled). length (s .events)) on in
           let q = D .count in
           omega (
             arith,
             length-append (sofar (tableOf width t) i .events) (revokeAt i (tableOf width u) .events),
             length-map (keep (wanted rows) (take (suc i) rows)) (λ r. revocation (inState asked r)),
+            length-map (keep (wanted rows) rows) (λ r. revocation (inState asked r)),
             keep-first (wanted rows) rows (suc i),
           )
 

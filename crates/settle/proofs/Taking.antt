@@ -15,8 +15,8 @@ use Rattle.settle.specs.Posts.{Took}
 pub take-none : (n : ℕ) (t : List ℕ) (w : Lock) → Shape n t → w .mode ≡ 1 → Took n w (tableOf width t) 0 t
 take-none n t w S e = record { number = rw (eq-eqb (w .mode) 1 e); table = rw (eq-eqb (w .mode) 1 e) (record { shape = S; says = refl }) }
 
-pub next-is : (ls : List ℕ) (w : Lock) → (w .mode ≡ 1 → ⊥) → nextNumber ls w ≡ getD ls (w .stripe) 0 + 1
-next-is ls w e = rw (ne-eqb (w .mode) 1 e)
+pub writer-next : (ls : List ℕ) (w : Lock) → (w .mode ≡ 1 → ⊥) → nextNumber ls w ≡ getD ls (w .stripe) 0 + 1
+writer-next ls w e = rw (ne-eqb (w .mode) 1 e)
 
 pub take-next : (n : ℕ) (t u : List ℕ) (w : Lock) (v : ℕ) → (w .mode ≡ 1 → ⊥) → v ≡ lastOf (tableOf width t) (w .stripe)
     → Holds n (withLast (tableOf width t) (w .stripe) (v + 1)) u → Took n w (tableOf width t) (v + 1) u

@@ -15,15 +15,14 @@ use Rattle.table.specs.declared.Lock.{Lock}
 use Rattle.table.specs.Table.{Table, nth, waits}
 use Rattle.table.specs.Sound.{sound}
 use Rattle.table.specs.Bytes.{locksOf, tableOf}
-use Rattle.table.specs.Places.{lockAt, Shape}
+use Rattle.table.specs.Places.{lockAt, Shape, Good}
 use Rattle.table.proofs.Facts.{Sound, sound→, →sound}
-use Rattle.table.proofs.Records.{locks-length}
+use Rattle.table.proofs.Records.{locks-length, nth-is}
 use Rattle.locks.specs.Conflicts.{obstacle}
 use Rattle.locks.specs.Settle.{Settled, grantEvent, grant, free, granting, turn, turns}
 use Rattle.locks.proofs.Walk.{Sounds, turns-sound}
-use Rattle.settle.specs.Posts.{Good, Due, fresh, Did}
-use Rattle.settle.proofs.Scan.{nth-is}
-use Rattle.settle.proofs.Written.{did-none, after, did-then}
+use Rattle.settle.specs.Posts.{Due, fresh, Did}
+use Rattle.settle.proofs.Written.{did-none, andThen, did-then}
 
 -- the turn of the record at place i
 module _ (n i : ℕ) (t : List ℕ) (G : Good n t) (h : i < n) where
@@ -57,27 +56,27 @@ module _ (n i : ℕ) (t : List ℕ) (G : Good n t) (h : i < n) where
     }
 
 -- a turn does the same whatever events stand before
-turn-after : (i : ℕ) (s : Settled) → turn i s ≡ after s (turn i (fresh (s .table)))
+turn-after : (i : ℕ) (s : Settled) → turn i s ≡ andThen s (turn i (fresh (s .table)))
 unfolding turn
 turn-after i s = go (free (s .table .locks) (nth (s .table) i))
   where
     g : Lock
     g = grant (s .table .lasts) (s .table .locks) (nth (s .table) i)
 
-    go : (b : Bool) → cond b (granting i s (nth (s .table) i) g) s ≡ after s (cond b (granting i (fresh (s .table)) (nth (s .table) i) g) (fresh (s .table)))
+    go : (b : Bool) → cond b (granting i s (nth (s .table) i) g) s ≡ andThen s (cond b (granting i (fresh (s .table)) (nth (s .table) i) g) (fresh (s .table)))
     go true = refl
     go false = λ k. record { table = s .table; events = sym (append-nil (s .events)) k }
 
-pub turns-none : (n : ℕ) (t b : List ℕ) → Shape n t → Did n 0 (turns 0 (tableOf width t)) b 0 t b
+pub turns-none : (n j : ℕ) (t b : List ℕ) → Shape n t → Did n j (turns 0 (tableOf width t)) b j t b
 unfolding turns
-turns-none n t b S = did-none n 0 t b S
+turns-none n j t b S = did-none n j t b S
 
-pub turns-more : (n i k r : ℕ) (X : Table) (b t c u d : List ℕ) → Did n 0 (turns i X) b k t c → Did n k (turn i (fresh (tableOf width t))) c r u d → Did n 0 (turns (i + 1) X) b r u d
+pub turns-more : (n i j k r : ℕ) (X : Table) (b t c u d : List ℕ) → Did n j (turns i X) b k t c → Did n k (turn i (fresh (tableOf width t))) c r u d → Did n j (turns (i + 1) X) b r u d
 unfolding turns
-turns-more n i k r X b t c u d D E =
+turns-more n i j k r X b t c u d D E =
     rw add-one
-    (subst (λ (s : Settled). Did n 0 s b r u d) (sym (turn-after i (turns i X)))
-    (did-then n 0 k r (turns i X) (turn i (fresh (turns i X .table))) b t c u d D
+    (subst (λ (s : Settled). Did n j s b r u d) (sym (turn-after i (turns i X)))
+    (did-then n j k r (turns i X) (turn i (fresh (turns i X .table))) b t c u d D
     (subst (λ (Y : Table). Did n k (turn i (fresh Y)) c r u d) (D .table .says) E)))
 
 -- so far at most one event for each place
@@ -91,11 +90,11 @@ few (suc i) X =
     let h = few i X in
     by-cond (λ (x : Settled). length (x .events) ≤ suc i) (free (s .table .locks) w) (granting i s w g) s (λ f. omega (arith, length-append (s .events) (grantEvent g ∷ []))) (λ f. omega arith)
 
-pub turns-few : (n i k : ℕ) (X : Table) (b t c : List ℕ) → Did n 0 (turns i X) b k t c → k ≤ i
-turns-few n i k X b t c D = let e = D .count in omega (arith, few i X)
+pub turns-few : (n i j k : ℕ) (X : Table) (b t c : List ℕ) → Did n j (turns i X) b k t c → k ≤ j + i
+turns-few n i j k X b t c D = let e = D .count in omega (arith, few i X)
 
-pub turns-good : (n i k : ℕ) (t b u c : List ℕ) → Good n t → i ≤ n → Did n 0 (turns i (tableOf width t)) b k u c → Good n u
-turns-good n i k t b u c G h D = record {
+pub turns-good : (n i j k : ℕ) (t b u c : List ℕ) → Good n t → i ≤ n → Did n j (turns i (tableOf width t)) b k u c → Good n u
+turns-good n i j k t b u c G h D = record {
   shape = D .table .shape;
   sounds = subst (λ (Y : Table). T (sound Y)) (sym (D .table .says)) (→sound (s .table) (subst (λ (m : ℕ). Sound m (s .table .lasts) (s .table .locks)) (sym (R .count)) (R .sound)));
 }

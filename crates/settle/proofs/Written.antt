@@ -6,14 +6,23 @@ use mathlib.Core.List.{List, [], _∷_, _++_, map}
 use mathlib.Core.Path.{_≡_, refl, sym, ap, ap₂, _∙_}
 use lib.ListN.{length, length-append}
 use Rattle.common.specs.Counters.{width}
+use Rattle.xdr.specs.Be.{putBe}
 use Rattle.xdr.specs.Layout.{putFields}
 use Rattle.xdr.specs.Array.{element, putElements}
+use Rattle.xdr.proofs.Fields.{put-fields-from}
 use Rattle.xdr.proofs.Elements.{put-elements-length}
-use Rattle.table.specs.Bytes.{tableOf}
+use Rattle.table.specs.declared.Lock.{Lock}
+use Rattle.table.specs.Bytes.{shownLayout, shownFields, tableOf}
 use Rattle.table.specs.Places.{Shape}
 use Rattle.locks.specs.Settle.{Event, Settled}
-use Rattle.locks.specs.Events.{eventLayout, eventFields}
+use Rattle.locks.specs.Events.{eventLayout, eventFields, eventPlace}
 use Rattle.settle.specs.Posts.{putEvents, fresh, Did}
+
+-- one event: its kind, and behind it what is shown of the record
+pub event-put : (b c d : List ℕ) (k kind : ℕ) (l : Lock) → c ≡ putBe 4 b (eventPlace k) kind → d ≡ putFields (shownLayout width) c (eventPlace k + 4) 0 (shownFields l)
+    → d ≡ putEvents b k (record { kind = kind; lock = l } ∷ [])
+unfolding putElements putFields
+event-put b c d k kind l e f = f ∙ put-fields-from (shownLayout width) c (eventPlace k) 4 0 (shownFields l) ∙ rw (add-zero (eventPlace k), e) refl
 
 events-then : (b : List ℕ) (k : ℕ) (es fs : List Event) → putEvents b k (es ++ fs) ≡ putEvents (putEvents b k es) (k + length es) fs
 unfolding putElements
@@ -29,10 +38,10 @@ unfolding putElements
 did-none n k t b S = record { table = record { shape = S; says = refl }; bytes = refl; count = sym (add-zero k) }
 
 -- s, and then s′ from what s left
-abbrev pub after : Settled → Settled → Settled
-after s s′ = record { table = s′ .table; events = s .events ++ s′ .events }
+abbrev pub andThen : Settled → Settled → Settled
+andThen s s′ = record { table = s′ .table; events = s .events ++ s′ .events }
 
-pub did-then : (n j k r : ℕ) (s s′ : Settled) (b t c u d : List ℕ) → Did n j s b k t c → Did n k s′ c r u d → Did n j (after s s′) b r u d
+pub did-then : (n j k r : ℕ) (s s′ : Settled) (b t c u d : List ℕ) → Did n j s b k t c → Did n k s′ c r u d → Did n j (andThen s s′) b r u d
 did-then n j k r s s′ b t c u d D E = record {
   table = E .table;
   bytes = E .bytes ∙ ap₂ (λ (x : List ℕ) (m : ℕ). putEvents x m (s′ .events)) (D .bytes) (D .count) ∙ sym (events-then b j (s .events) (s′ .events));

@@ -1,58 +1,22 @@
--- What the functions of settling promise each other. No public contract of the store cites this file.
-use Prim.Native.Nat.{ℕ, _+_, _-_, _≤_, _<_, min}
+-- What the functions of settling promise each other. Of these only `Did` is seen outside, by the function that serves a message.
+use Prim.Native.Nat.{ℕ, _+_, _<_}
 use mathlib.Core.Path.{_≡_}
-use mathlib.Core.Bool.{Bool, false, not, _&&_, cond}
+use mathlib.Core.Bool.{cond}
 use mathlib.Core.List.{List, [], _∷_, map}
-use lib.Dec.{T, eqb}
-use lib.ListN.{length, getD, take}
+use lib.Dec.{T}
+use lib.ListN.{length}
 use Rattle.common.specs.Counters.{width}
-use Rattle.common.specs.Ranges.{overlap, eof}
-use Rattle.common.specs.Tests.{all, any}
+use Rattle.common.specs.Ranges.{eof}
+use Rattle.common.specs.Tests.{any}
 use Rattle.xdr.specs.Array.{putElements}
-use Rattle.modes.specs.Codes.{knownMode, nbw, granted, asked, canceling}
-use Rattle.modes.specs.Conflict.{conflict}
+use Rattle.modes.specs.Codes.{granted, asked, canceling}
 use Rattle.table.specs.declared.Lock.{Lock}
-use Rattle.table.specs.Table.{Table, blank, nth}
-use Rattle.table.specs.Sound.{sound}
+use Rattle.table.specs.Table.{Table, nth}
 use Rattle.table.specs.Bytes.{locksOf, tableOf}
-use Rattle.table.specs.Places.{FitsTable, Shape, Holds, withLock}
+use Rattle.table.specs.Places.{ShownFits, Shape, Holds, Good, withLock}
 use Rattle.locks.specs.Conflicts.{hurries}
-use Rattle.locks.specs.Settle.{Event, Settled, given, inState, ahead, revocation, widest, nextNumber, lastsAfter, free, wanted, settle}
-use Rattle.locks.specs.Events.{eventLayout, eventFields, eventsOver}
-
--- a sound table of n records: what each function that changes it asks
-pub record Good (n : ℕ) (t : List ℕ) : Type 0 where
-  pub shape : Shape n t
-  pub sounds : T (sound (tableOf width t))
-
--- a table of n records whose modes are known: what each question asks
-abbrev pub moded : Lock → Bool
-moded r = knownMode (r .mode)
-
-pub record Fair (n : ℕ) (t : List ℕ) : Type 0 where
-  pub shape : Shape n t
-  pub modes : T (all moded (locksOf width t))
-
--- none of the first i of n records passes p; r is the first that does, and n where none does
-pub record Past (p : Lock → Bool) (n : ℕ) (rs : List Lock) (i : ℕ) : Type 0 where
-  pub most : i ≤ n
-  pub none : any p (take i rs) ≡ false
-
-pub record First (p : Lock → Bool) (n : ℕ) (rs : List Lock) (r : ℕ) : Type 0 where
-  pub past : Past p n rs r
-  pub here : r < n → T (p (getD rs r blank))
-
--- r has w's stripe, and a byte of what w asks up to l
-abbrev pub near : Lock → ℕ → Lock → Bool
-near w l r = eqb (w .stripe) (r .stripe) && overlap (w .first) l (r .first) (r .last)
-
--- r is a canceling NBW, and w's mode passes it
-abbrev pub passes : Lock → Lock → Bool
-passes w r = (eqb (r .state) canceling && eqb (r .mode) nbw) && not (conflict (w .mode) nbw canceling)
-
--- w's last byte, m so far, cut by r
-abbrev pub cutBy : Lock → ℕ → Lock → ℕ
-cutBy w m r = cond (ahead w r) (min (r .first - 1) m) m
+use Rattle.locks.specs.Settle.{Event, Settled, given, inState, revocation, widest, nextNumber, lastsAfter, free, wanted}
+use Rattle.locks.specs.Events.{eventLayout, eventFields}
 
 -- what w becomes when it is granted among the records rs with the number v
 abbrev pub grantedAs : List Lock → Lock → ℕ → Lock
@@ -98,11 +62,5 @@ pub record Wanted (n i : ℕ) (r : Lock) (t : List ℕ) : Type 0 where
   pub shape : Shape n t
   pub place : i < n
   pub is : nth (tableOf width t) i ≡ r
-  pub fits : FitsTable r
+  pub fits : ShownFits r
   pub wanted : T (wanted (locksOf width t) r)
-
--- the bytes u and c and the count r are the table T settled: its table, the array of its events over b, and how many they are
-pub record Settles (n : ℕ) (T : Table) (b : List ℕ) (r : ℕ) (u c : List ℕ) : Type 0 where
-  pub table : Holds n (settle T .table) u
-  pub bytes : c ≡ eventsOver width b (settle T .events)
-  pub count : r ≡ length (settle T .events)

@@ -12,14 +12,14 @@ use borrow.Author.Tests.{eq-eqb}
 use Rattle.common.specs.Tests.{count}
 use Rattle.common.proofs.Bools.{never}
 use Rattle.table.specs.declared.Lock.{Lock}
-use Rattle.table.specs.Table.{waits, writes}
+use Rattle.table.specs.Table.{waits, writes, stripeCount}
 use Rattle.table.specs.Sound.{valid, wants}
 use Rattle.table.proofs.Facts.{valid→}
-use Rattle.sound.specs.Parts.{Counted}
+use Rattle.sound.specs.Parts.{Tallied}
 use Rattle.sound.proofs.Left.{count-more, count-done}
 
 -- a valid record's stripe has a count
-pub has-count : (issued : ℕ) (lasts : List ℕ) (r : Lock) → valid issued lasts r ≡ true → r .stripe < 16
+pub has-count : (issued : ℕ) (lasts : List ℕ) (r : Lock) → valid issued lasts r ≡ true → r .stripe < stripeCount
 has-count issued lasts r e = let h = valid→ issued lasts r (subst T (sym e) tt) .stripe-hi in omega arith
 
 module _ (ks : List ℕ) (rs : List Lock) (r : Lock) (j : ℕ) where
@@ -36,7 +36,7 @@ module _ (ks : List ℕ) (rs : List Lock) (r : Lock) (j : ℕ) where
       go false q =
           getD-set-other ks (r .stripe) s (getD ks (r .stripe) 0 + j) 0 (λ z. never (sym q ∙ eq-eqb (r .stripe) s (sym z))) ∙ sym (add-zero (getD ks s 0))
 
-  pub one-more : (i : ℕ) → Counted i ks rs → drop i rs ≡ r ∷ drop (i + 1) rs → r .stripe < 16 → j ≡ cond (waits r && writes r) 1 0 → j ≤ 1 → Counted (i + 1) raised rs
+  pub one-more : (i : ℕ) → Tallied i ks rs → drop i rs ≡ r ∷ drop (i + 1) rs → r .stripe < stripeCount → j ≡ cond (waits r && writes r) 1 0 → j ≤ 1 → Tallied (i + 1) raised rs
   one-more i C e h f m = record {
     long = length-set ks (r .stripe) (getD ks (r .stripe) 0 + j) ∙ C .long;
     few = λ s p. let k = C .few s p in let z = at-own s own in let y = most (eqb (r .stripe) s) in omega arith;
@@ -57,13 +57,13 @@ module _ (ks : List ℕ) (rs : List Lock) (r : Lock) (j : ℕ) where
       counts false true f = f
       counts false false f = refl
 
-pub none-yet : (rs : List Lock) → Counted 0 (replicate {A = ℕ} 16 0) rs
+pub none-yet : (rs : List Lock) → Tallied 0 (replicate {A = ℕ} stripeCount 0) rs
 none-yet rs = record {
-  long = length-replicate {A = ℕ} 16 0;
-  few = λ s p. let z = getD-replicate {A = ℕ} 16 s 0 0 p in omega arith;
-  left = λ s p. rw (getD-replicate {A = ℕ} 16 s 0 0 p) (zero-add (count (wants s) rs));
+  long = length-replicate {A = ℕ} stripeCount 0;
+  few = λ s p. let z = getD-replicate {A = ℕ} stripeCount s 0 0 p in omega arith;
+  left = λ s p. rw (getD-replicate {A = ℕ} stripeCount s 0 0 p) (zero-add (count (wants s) rs));
 }
 
 -- at the end they speak of all records
-pub counted : (n : ℕ) (ks : List ℕ) (rs : List Lock) → Counted n ks rs → drop n rs ≡ [] → (s : ℕ) → s < 16 → getD ks s 0 ≡ count (wants s) rs
-counted n ks rs C e s h = count-done (wants s) _ (getD ks s 0) e (C .left s h)
+pub tallied : (n : ℕ) (ks : List ℕ) (rs : List Lock) → Tallied n ks rs → drop n rs ≡ [] → (s : ℕ) → s < stripeCount → getD ks s 0 ≡ count (wants s) rs
+tallied n ks rs C e s h = count-done (wants s) _ (getD ks s 0) e (C .left s h)

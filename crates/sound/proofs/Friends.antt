@@ -1,11 +1,12 @@
 -- `friends_at`: each test that leaves early decides what two records are to each other.
-use Prim.Native.Nat.{ℕ, _^_, _≤_, _<_}
+use Prim.Native.Nat.{ℕ, _+_, _^_, _≤_, _<_}
 use mathlib.Core.Bool.{Bool, true, false, not, _&&_, _||_, cond, and-true, and-false, or-false}
 use mathlib.Core.Logic.{⊎-elim}
 use mathlib.Core.Path.{_≡_, refl, sym, ap, ap₂, _∙_}
 use native.Mathlib.Omega.{arith}
 use lib.Dec.{leb, eqb}
 use borrow.Author.Tests.{eq-eqb, ne-eqb, lt-leb, le-leb, lt-ltb, le-ltb}
+use Rattle.common.specs.Counters.{width, highest}
 use Rattle.common.specs.Ranges.{overlap, within}
 use Rattle.common.specs.Tests.{implies}
 use Rattle.common.proofs.Bools.{never}
@@ -79,12 +80,12 @@ module _ (a b : Lock) where
       (ap (λ (x : Bool). differ a b && implies (together a b && x) clear) o ∙ ap (λ (x : Bool). differ a b && implies x clear) (and-false (together a b))
       ∙ and-true (differ a b))
 
-  pub behind : (f : ℕ) → f ≡ b .first → a .last < f → differ a b ≡ friendly a b
-  behind f g h =
+  pub starts-after : (f : ℕ) → f ≡ b .first → a .last < f → differ a b ≡ friendly a b
+  starts-after f g h =
       clash (ap (λ (x : Bool). leb (a .first) (b .last) && x) (lt-leb (b .first) (a .last) (omega arith)) ∙ and-false (leb (a .first) (b .last)))
 
-  pub ahead : (l : ℕ) → l ≡ b .last → l < a .first → differ a b ≡ friendly a b
-  ahead l g h = clash (ap (λ (x : Bool). x && leb (b .first) (a .last)) (lt-leb (a .first) (b .last) (omega arith)))
+  pub ends-before : (l : ℕ) → l ≡ b .last → l < a .first → differ a b ≡ friendly a b
+  ends-before l g h = clash (ap (λ (x : Bool). x && leb (b .first) (a .last)) (lt-leb (a .first) (b .last) (omega arith)))
 
 -- of one stripe, and the first held
 module _ (a b : Lock) (s : ℕ) (es : s ≡ b .stripe) (qs : s ≡ a .stripe) (h : a .state ≡ 0 → ⊥) where
@@ -92,11 +93,11 @@ module _ (a b : Lock) (s : ℕ) (es : s ≡ b .stripe) (qs : s ≡ a .stripe) (h
   joined = rw (ne-eqb (a .state) 0 h, eq-eqb (a .stripe) (b .stripe) (sym qs ∙ es)) (and-true (held b))
 
   -- the numbers
-  module _ (n : ℕ) (en : n ≡ numberOf b) (l : n < 2 ^ 32) where
+  module _ (n : ℕ) (en : n ≡ numberOf b) (l : n < 256 ^ width) where
     pub other-number : (n ≡ owned a → ⊥) → true ≡ differ a b
     other-number q = go (eqb (a .mode) 1) (λ e. q (e ∙ refl))
       where
-        go : (x : Bool) → (n ≡ cond x 4294967296 (numberOf a) → ⊥) → true ≡ implies (together a b && (not x && writes b)) (unlike a b)
+        go : (x : Bool) → (n ≡ cond x (highest width + 1) (numberOf a) → ⊥) → true ≡ implies (together a b && (not x && writes b)) (unlike a b)
         go true k = sym (ap (λ (y : Bool). implies y (unlike a b)) (and-false (together a b)))
         go false k =
             sym (ap (λ (y : Bool). implies (together a b && writes b) (not y)) (ne-eqb (numberOf a) (numberOf b) (λ e. k (en ∙ sym e))) ∙ always (together a b && writes b))
@@ -111,7 +112,7 @@ module _ (a b : Lock) (s : ℕ) (es : s ≡ b .stripe) (qs : s ≡ a .stripe) (h
         no false true = refl
         no false false = refl
 
-        go : (x : Bool) → n ≡ cond x 4294967296 (numberOf a) → implies (held b && (not x && writes b)) (unlike a b) ≡ (eqb (b .state) 0 || eqb (b .mode) 1)
+        go : (x : Bool) → n ≡ cond x (highest width + 1) (numberOf a) → implies (held b && (not x && writes b)) (unlike a b) ≡ (eqb (b .state) 0 || eqb (b .mode) 1)
         go true k = absurd (let z : ⊥ = omega arith in z)
         go false k =
             ap (λ (y : Bool). implies (held b && writes b) (not y)) (eq-eqb (numberOf a) (numberOf b) (sym k ∙ en)) ∙ no (eqb (b .state) 0) (eqb (b .mode) 1)

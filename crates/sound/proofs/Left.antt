@@ -28,13 +28,13 @@ module _ (n i : ℕ) (t : List ℕ) (S : Sized n t) where
 abbrev pub stripesFrom : ℕ → List ℕ
 stripesFrom s = upFrom s (stripeCount - s)
 
-pub stripes-from : (s : ℕ) → s < 16 → stripesFrom s ≡ s ∷ stripesFrom (s + 1)
+pub stripes-from : (s : ℕ) → s < stripeCount → stripesFrom s ≡ s ∷ stripesFrom (s + 1)
 stripes-from s h =
-    let e : 16 - s ≡ suc (16 - (s + 1)) = omega arith in
-    ap (upFrom s) e ∙ ap (λ (k : ℕ). s ∷ upFrom k (16 - (s + 1))) (sym (add-one s))
+    let e : stripeCount - s ≡ suc (stripeCount - (s + 1)) = omega arith in
+    ap (upFrom s) e ∙ ap (λ (k : ℕ). s ∷ upFrom k (stripeCount - (s + 1))) (sym (add-one s))
 
-pub stripes-end : (s : ℕ) → 16 ≤ s → stripesFrom s ≡ []
-stripes-end s h = let e : 16 - s ≡ 0 = omega arith in ap (upFrom s) e
+pub stripes-end : (s : ℕ) → stripeCount ≤ s → stripesFrom s ≡ []
+stripes-end s h = let e : stripeCount - s ≡ 0 = omega arith in ap (upFrom s) e
 
 -- a test of each element
 module _ {A : Type 0} (p : A → Bool) (w ok : Bool) where

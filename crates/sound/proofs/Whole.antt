@@ -1,5 +1,5 @@
 -- `table_sound`: the parts of the test, together, are the definition's.
-use Prim.Native.Nat.{ℕ, _+_, _*_, _^_, _≤_, _<_}
+use Prim.Native.Nat.{ℕ, _^_, _≤_, _<_}
 use mathlib.Core.Bool.{Bool, true, false, _&&_, and-true, and-false}
 use mathlib.Core.List.{List}
 use mathlib.Core.Path.{_≡_, refl, sym, ap, _∙_}
@@ -13,7 +13,7 @@ use Rattle.xdr.specs.Be.{be}
 use Rattle.table.specs.Table.{Table, stripeCount, maxRecords}
 use Rattle.table.specs.Sound.{valid, agree, room, stripes, sound}
 use Rattle.table.specs.Bytes.{tableSize, tableOf, locksOf, recordsEnd, soundTableBytes}
-use Rattle.table.specs.Places.{countOf}
+use Rattle.table.specs.Places.{lockPlace, countOf}
 use Rattle.table.proofs.Facts.{sound→, →sound}
 use Rattle.table.proofs.Records.{locks-length, lasts-length}
 use Rattle.sound.specs.Parts.{friendly, climbs, eachSound}
@@ -49,17 +49,17 @@ unfolding soundTableBytes
 bad-length t h = sym (ap (λ (b : Bool). b && (sound (tableOf width t) && zeros (drop (recordsEnd width t) t))) (ne-eqb (length t) (tableSize width) h))
 
 module _ (t : List ℕ) (n : ℕ) (e : n ≡ countOf t) where
-  pub too-many : 256 < n → false ≡ soundTableBytes t
+  pub too-many : maxRecords < n → false ≡ soundTableBytes t
   unfolding soundTableBytes
   too-many h =
       alike false (soundTableBytes t) (λ z. absurd z)
       (λ s. let f = sound→ (tableOf width t) (search (and-l, and-r)) .fits in let l = locks-length t in omega arith)
 
-  pub sound-is : (i : ℕ) (v f z : Bool) → length t ≡ tableSize width → n ≤ 256 → i ≡ be 4 t 0 → i < 2 ^ 32
-      → v ≡ eachSound i (tableOf width t) → f ≡ pairs friendly (locksOf width t) → z ≡ zeros (drop (72 + 40 * n) t) → ((v && f) && z) ≡ soundTableBytes t
+  pub sound-is : (i p : ℕ) (v f z : Bool) → length t ≡ tableSize width → n ≤ maxRecords → i ≡ be width t 0 → i < 256 ^ width → p ≡ lockPlace n
+      → v ≡ eachSound i (tableOf width t) → f ≡ pairs friendly (locksOf width t) → z ≡ zeros (drop p t) → ((v && f) && z) ≡ soundTableBytes t
   unfolding soundTableBytes
-  sound-is i v f z a m q b ev ef ez =
+  sound-is i p v f z a m q b ep ev ef ez =
       let l = locks-length t in
-      rw (ev, ef, ez, q, e)
+      rw (ev, ef, ez, ep, q, e)
       (ap (λ (x : Bool). x && zeros (drop (recordsEnd width t) t)) (tested (tableOf width t) (omega arith) (lasts-length t) (omega arith))
       ∙ sym (ap (λ (x : Bool). x && (sound (tableOf width t) && zeros (drop (recordsEnd width t) t))) (eq-eqb (length t) (tableSize width) a)))

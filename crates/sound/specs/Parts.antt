@@ -22,7 +22,7 @@ pub record Sized (n : ℕ) (t : List ℕ) : Type 0 where
   pub most : n ≤ maxRecords
 
 -- ks has, for each stripe, how many write requests wait for it among the first i of the records
-pub record Counted (i : ℕ) (ks : List ℕ) (rs : List Lock) : Type 0 where
+pub record Tallied (i : ℕ) (ks : List ℕ) (rs : List Lock) : Type 0 where
   pub long : length ks ≡ stripeCount
   pub few : (s : ℕ) → s < stripeCount → getD ks s 0 ≤ i
   pub left : (s : ℕ) → s < stripeCount → getD ks s 0 + count (wants s) (drop i rs) ≡ count (wants s) rs
@@ -40,8 +40,8 @@ eachSound issued t = (all (valid issued (t .lasts)) (t .locks) && climbs 0 (t .l
 abbrev pub owned : Lock → ℕ
 owned a = cond (eqb (a .mode) pr) (highest width + 1) (numberOf a)
 
--- a held record a with the number that it owns, and place j of a table's bytes
-pub record Beside (a : Lock) (own j : ℕ) (t : List ℕ) : Type 0 where
+-- a held record a with the number that it owns faces place j of a table's bytes
+pub record Faces (a : Lock) (own j : ℕ) (t : List ℕ) : Type 0 where
   pub size : length t ≡ tableSize width
   pub place : j < maxRecords
   pub held : a .state ≡ waiting → ⊥

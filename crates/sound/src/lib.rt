@@ -18,11 +18,11 @@ ghost use Prim.Native.Nat.{_≤_, _<_};
 ghost use lib.ListN.{length};
 ghost use Rattle.common.specs.Counters.{width};
 ghost use Rattle.common.specs.Tests.{all, pairs};
-ghost use Rattle.table.specs.Table.{waits};
+ghost use Rattle.table.specs.Table.{waits, maxRecords};
 ghost use Rattle.table.specs.Sound.{valid, numbered, differ, room, stripes};
 ghost use Rattle.table.specs.Bytes.{tableSize, tableOf, soundTableBytes};
 ghost use Rattle.table.specs.Places.{lockAt};
-ghost use Rattle.sound.specs.Parts.{Sized, Counted, Beside, eachSound, friendly, owned, smallerYields};
+ghost use Rattle.sound.specs.Parts.{Sized, Tallied, Faces, eachSound, friendly, owned, smallerYields};
 
 // A number that no record has.
 const NO_NUMBER: Number = Number(HIGHEST + 1);
@@ -72,7 +72,7 @@ fn one(b: bool) -> u64
 
 // Says whether each stripe has room for the numbers that its waiting write requests, waiters[s] for stripe s, will take.
 fn rooms(t: &[u8], n: usize, issued: u64, waiters: &[u64]) -> bool
-    requires { ⌜ Sized n (now t) × Counted n (now waiters) (tableOf width (now t) .locks) ⌝ }
+    requires { ⌜ Sized n (now t) × Tallied n (now waiters) (tableOf width (now t) .locks) ⌝ }
     ensures { λ r. ⌜ r ≡ all (room issued (tableOf width (now (t .entry)) .lasts) (tableOf width (now (t .entry)) .locks)) stripes ⌝ }
 {
     let mut ok = true;
@@ -126,40 +126,38 @@ fn own_number(a: Lock) -> Number
 
 // Says whether the record at place j, of a's stripe, has another number than the held record a, if both are held write locks.
 fn differs_at(t: &[u8], a: Lock, own: Number, j: usize) -> bool
-    requires { ⌜ Beside a (own .0) j (now t) × (lockAt (now t) j .stripe ≡ a .stripe) ⌝ }
+    requires { ⌜ Faces a (own .0) j (now t) × (lockAt (now t) j .stripe ≡ a .stripe) ⌝ }
     ensures { λ r. ⌜ r ≡ differ a (lockAt (now (t .entry)) j) ⌝ }
 {
-    let at = table::RECORDS + table::RECORD_BYTES * j;
-    if xdr::u32_at(t, at + table::NUMBER) != own.0 {
+    if table::number_at(t, j).0 != own.0 {
         return true;
     }
-    (xdr::u32_at(t, at + table::STATE) == WAITING) | (xdr::u32_at(t, at + table::MODE) == PR)
+    (table::state_at(t, j) == WAITING) | (table::mode_at(t, j) == PR)
 }
 
 // Says whether the held record a and the one at place j may both be there. It reads stripe and range before anything else.
 fn friends_at(t: &[u8], a: Lock, own: Number, j: usize) -> bool
-    requires { ⌜ Beside a (own .0) j (now t) ⌝ }
+    requires { ⌜ Faces a (own .0) j (now t) ⌝ }
     ensures { λ r. ⌜ r ≡ friendly a (lockAt (now (t .entry)) j) ⌝ }
 {
-    let at = table::RECORDS + table::RECORD_BYTES * j;
-    if xdr::u32_at(t, at + table::STRIPE) != a.stripe {
+    if table::stripe_at(t, j) != a.stripe {
         return true;
     }
-    if a.last < xdr::u64_at(t, at + table::FIRST) {
+    if a.last < table::first_at(t, j) {
         return differs_at(t, a, own, j);
     }
-    if xdr::u64_at(t, at + table::LAST) < a.first {
+    if table::last_at(t, j) < a.first {
         return differs_at(t, a, own, j);
     }
-    let mode = xdr::u32_at(t, at + table::MODE);
+    let mode = table::mode_at(t, j);
     if (a.mode == PR) & (mode == PR) {
         return true;
     }
-    let state = xdr::u32_at(t, at + table::STATE);
+    let state = table::state_at(t, j);
     if state == WAITING {
         return true;
     }
-    let number = Number(xdr::u32_at(t, at + table::NUMBER));
+    let number = table::number_at(t, j);
     if number.0 == a.number.0 {
         return false;
     }
@@ -168,10 +166,10 @@ fn friends_at(t: &[u8], a: Lock, own: Number, j: usize) -> bool
 
 // Says whether the record at place i waits.
 fn waits_at(t: &[u8], i: usize) -> bool
-    requires { ⌜ (length (now t) ≡ tableSize width) × (i < 256) ⌝ }
+    requires { ⌜ (length (now t) ≡ tableSize width) × (i < maxRecords) ⌝ }
     ensures { λ r. ⌜ r ≡ waits (lockAt (now (t .entry)) i) ⌝ }
 {
-    xdr::u32_at(t, table::RECORDS + table::RECORD_BYTES * i + table::STATE) == WAITING
+    table::state_at(t, i) == WAITING
 }
 
 // Says whether every two records may both be there. The search stops at the first pair that may not.
@@ -213,7 +211,5 @@ pub fn table_sound(t: &[u8]) -> bool
         return false;
     }
     let issued = table::issued(t);
-    each_sound(t, n, issued)
-        & all_friends(t, n)
-        & common::is_blank(t, table::RECORDS + table::RECORD_BYTES * n)
+    each_sound(t, n, issued) & all_friends(t, n) & common::is_blank(t, table::place(n))
 }

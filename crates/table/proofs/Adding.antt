@@ -10,23 +10,23 @@ use Rattle.xdr.specs.Be.{putBe}
 use Rattle.xdr.specs.Tab.{tab}
 use Rattle.xdr.proofs.Tabs.{tab-snoc}
 use Rattle.table.specs.declared.Lock.{Lock}
-use Rattle.table.specs.Table.{Table}
-use Rattle.table.specs.Bytes.{locksOf, tableOf}
+use Rattle.table.specs.Table.{Table, maxRecords}
+use Rattle.table.specs.Bytes.{arrayAt, locksOf, tableOf}
 use Rattle.table.specs.Places.{lockAt, Shape, Holds, withLock, withLocks}
 use Rattle.table.proofs.Records.{locks-tab, locks-length}
 use Rattle.table.proofs.Stores.{recounted}
 
-module _ (n : ℕ) (t : List ℕ) (T : Shape n t) (h : n < 256) where
+module _ (n : ℕ) (t : List ℕ) (T : Shape n t) (h : n < maxRecords) where
   more : tab (n + 1) (lockAt t) ≡ locksOf width t ++ (lockAt t n ∷ [])
   more = rw (add-one, locks-tab t, T .count) (tab-snoc n (lockAt t))
 
-  pub grown : Holds (n + 1) (withLocks (tableOf width t) (locksOf width t ++ (lockAt t n ∷ []))) (putBe 4 t 68 (n + 1))
+  pub grown : Holds (n + 1) (withLocks (tableOf width t) (locksOf width t ++ (lockAt t n ∷ []))) (putBe 4 t (arrayAt width) (n + 1))
   grown =
       let c = T .count in
-      subst (λ (ls : List Lock). Holds (n + 1) (withLocks (tableOf width t) ls) (putBe 4 t 68 (n + 1))) more
+      subst (λ (ls : List Lock). Holds (n + 1) (withLocks (tableOf width t) ls) (putBe 4 t (arrayAt width) (n + 1))) more
       (recounted n (n + 1) t T (omega arith) (λ b q. T .zeros b (omega arith)))
 
-  pub added : (l : Lock) (u : List ℕ) → Holds (n + 1) (withLock (tableOf width (putBe 4 t 68 (n + 1))) n l) u
+  pub added : (l : Lock) (u : List ℕ) → Holds (n + 1) (withLock (tableOf width (putBe 4 t (arrayAt width) (n + 1))) n l) u
       → Holds (n + 1) (withLocks (tableOf width t) (locksOf width t ++ (l ∷ []))) u
   added l u H =
       subst (λ (ls : List Lock). Holds (n + 1) (withLocks (tableOf width t) ls) u)

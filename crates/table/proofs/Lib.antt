@@ -3,4 +3,9 @@ pub mod Records
 pub mod Stores
 pub mod Adding
 pub mod Removing
+pub mod Scan
+pub mod Known
 pub mod Unique
+pub mod Encoding
+pub mod Fitting
+pub mod Zeros

@@ -10,13 +10,13 @@ use lib.ListN.{length, getD, set, take, drop, drop-of-length-le}
 use lib.Seq.{getD-set-same, take-at, take-set-le}
 use Rattle.common.specs.Counters.{width}
 use Rattle.xdr.specs.Be.{Bytes, be, putBe}
-use Rattle.xdr.specs.Layout.{fields}
+use Rattle.xdr.specs.Layout.{fields, size}
 use Rattle.xdr.specs.Tab.{tab}
 use Rattle.xdr.proofs.Tabs.{length-tab, tab-snoc}
 use Rattle.table.specs.declared.Lock.{Lock}
 use Rattle.table.specs.Table.{Table, blank}
-use Rattle.table.specs.Bytes.{locksOf, tableOf}
-use Rattle.table.specs.Places.{lockAt, Shape, Holds, withLock, withLocks, without}
+use Rattle.table.specs.Bytes.{lockLayout, arrayAt, locksOf, tableOf}
+use Rattle.table.specs.Places.{lockPlace, lockAt, Shape, Holds, withLock, withLocks, without}
 use Rattle.table.proofs.Records.{locks-tab, locks-length, locks-at, lock-inj}
 use Rattle.table.proofs.Stores.{recounted}
 
@@ -60,12 +60,12 @@ module _ (i k : ℕ) (t u v : List ℕ) (C : Closing (k + 1) i k t u) (b : Bytes
       sym (locks-at v k (let c = H .shape .count in omega arith)) ∙ ap (λ (X : Table). getD (X .locks) k blank) (H .says)
       ∙ getD-set-same (locksOf width u) k blank blank (rw locks-length (let c = C .holds .shape .count in omega arith))
 
-  zeros : (x : ℕ) → 72 + 40 * k ≤ x → getD v x 0 ≡ 0
+  zeros : (x : ℕ) → lockPlace k ≤ x → getD v x 0 ≡ 0
   zeros x h =
-      elim (decLt x (72 + 40 * k + 40)) [
+      elim (decLt x (lockPlace k + size (lockLayout width))) [
         | yes q ↦
-            let e : _≡_ {A = ℕ} (72 + 40 * k + (x - (72 + 40 * k))) x = omega arith in
-            rw e at (lock-inj v [] k b (λ i. lit< tt) last-blank (x - (72 + 40 * k)) (omega arith))
+            let e : _≡_ {A = ℕ} (lockPlace k + (x - (lockPlace k))) x = omega arith in
+            rw e at (lock-inj v [] k b (λ i. lit< tt) last-blank (x - (lockPlace k)) (omega arith))
         | no q ↦ H .shape .zeros x (let c = H .shape .count in omega arith)
       ]
 
@@ -77,9 +77,9 @@ module _ (i k : ℕ) (t u v : List ℕ) (C : Closing (k + 1) i k t u) (b : Bytes
       ∙ sym (ap (λ (ls : List Lock). take k (locksOf width u) ++ ls) (drop-of-length-le (locksOf width u) {i = k + 1} (rw locks-length (let c = C .holds .shape .count in omega arith))) ∙ append-nil _)
       ∙ C .left
 
-  pub closed : Holds k (withLocks (tableOf width t) (without i (locksOf width t))) (putBe 4 v 68 k)
+  pub closed : Holds k (withLocks (tableOf width t) (without i (locksOf width t))) (putBe 4 v (arrayAt width) k)
   closed =
-      subst (λ (X : Table). Holds k (withLocks X (without i (locksOf width t))) (putBe 4 v 68 k)) (C .holds .says)
-      (subst (λ (X : Table). Holds k (withLocks X (without i (locksOf width t))) (putBe 4 v 68 k)) (H .says)
-      (subst (λ (ls : List Lock). Holds k (withLocks (tableOf width v) ls) (putBe 4 v 68 k)) rest
+      subst (λ (X : Table). Holds k (withLocks X (without i (locksOf width t))) (putBe 4 v (arrayAt width) k)) (C .holds .says)
+      (subst (λ (X : Table). Holds k (withLocks X (without i (locksOf width t))) (putBe 4 v (arrayAt width) k)) (H .says)
+      (subst (λ (ls : List Lock). Holds k (withLocks (tableOf width v) ls) (putBe 4 v (arrayAt width) k)) rest
       (recounted (k + 1) k v (H .shape) (let m = H .shape .most in omega arith) zeros)))

@@ -11,15 +11,18 @@ use Rattle.xdr.specs.Be.{be}
 use Rattle.xdr.specs.Layout.{fields, size}
 use Rattle.xdr.specs.Array.{array, arraySize, element}
 use Rattle.table.specs.declared.Lock.{Lock}
-use Rattle.table.specs.Table.{Table, stripeCount, maxRecords}
+use Rattle.table.specs.Table.{Table, stripeCount, maxRecords, handleOf, numberOf}
 use Rattle.table.specs.Sound.{sound}
 
--- "A record is handle, client, stripe, mode, state, number, first, last: 40 bytes."
-abbrev pub lockLayout : ℕ → List ℕ
-lockLayout w = w ∷ 4 ∷ 4 ∷ 4 ∷ 4 ∷ w ∷ 8 ∷ 8 ∷ []
+-- What is shown of a record, in its own bytes and in an event's: the widths, the numbers, and the record that numbers say
+abbrev pub shownLayout : ℕ → List ℕ
+shownLayout w = w ∷ 4 ∷ 4 ∷ 4 ∷ 4 ∷ w ∷ 8 ∷ 8 ∷ []
 
-abbrev pub lockOf : List ℕ → Lock
-lockOf fs =
+abbrev pub shownFields : Lock → List ℕ
+shownFields r = handleOf r ∷ r .client ∷ r .stripe ∷ r .mode ∷ r .state ∷ numberOf r ∷ r .first ∷ r .last ∷ []
+
+abbrev pub shownOf : List ℕ → Lock
+shownOf fs =
     record {
       handle = handle (getD fs 0 0);
       client = getD fs 1 0;
@@ -30,6 +33,16 @@ lockOf fs =
       first = getD fs 6 0;
       last = getD fs 7 0;
     }
+
+-- "A record is handle, client, stripe, mode, state, number, first, last: 40 bytes."
+abbrev pub lockLayout : ℕ → List ℕ
+lockLayout w = shownLayout w
+
+abbrev pub lockFields : Lock → List ℕ
+lockFields r = shownFields r
+
+abbrev pub lockOf : List ℕ → Lock
+lockOf fs = shownOf fs
 
 -- "Table, exactly 10,312 bytes: handles issued; 16 last sequence numbers; the array of at most 256 records .."
 abbrev pub lastsLayout : ℕ → List ℕ

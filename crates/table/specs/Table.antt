@@ -61,6 +61,20 @@ blank =
       last = 0;
     }
 
+-- A record with another mode, state, number and last byte: what settling and a message change of it
+abbrev pub remade : Lock → ℕ → ℕ → ℕ → ℕ → Lock
+remade r mode state n last =
+    record {
+      handle = r .handle;
+      client = r .client;
+      stripe = r .stripe;
+      mode = mode;
+      state = state;
+      number = number n;
+      first = r .first;
+      last = last;
+    }
+
 -- The record at place i, counted from 0
 abbrev pub nth : Table → ℕ → Lock
 nth t i = getD (t .locks) i blank

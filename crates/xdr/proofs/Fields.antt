@@ -1,12 +1,12 @@
 -- The laws of `fields` and `putFields`, over the widths: the first number, then a structure that starts behind it.
 use mathlib.Core.Path.{_≡_, refl, ap₂, _∙_}
 use mathlib.Core.List.{List, [], _∷_}
-use Prim.Native.Nat.{ℕ, _+_, _-_, _≤_, _<_}
-use native.Mathlib.Nat.{add-assoc, not-suc-le-zero}
+use Prim.Native.Nat.{ℕ, zero, suc, _+_, _-_, _≤_, _<_}
+use native.Mathlib.Nat.{add-zero, add-assoc, not-suc-le-zero}
 use native.Mathlib.Decide.{decLt}
 use native.Mathlib.Omega.{arith}
-use lib.ListN.{length, getD}
-use Rattle.xdr.specs.Be.{Bytes, putBe}
+use lib.ListN.{length, getD, take}
+use Rattle.xdr.specs.Be.{Bytes, be, putBe}
 use Rattle.xdr.specs.Layout.{fields, putFields, size, Fit}
 use Rattle.xdr.proofs.Numbers.{be-ext, be-lt, be-inj, be-put-same, put-be, put-other, put-length, put-bytes}
 
@@ -19,6 +19,26 @@ fields-ext (w ∷ ws) s t a b o h =
     ap₂ (λ (x : ℕ) (l : List ℕ). x ∷ l)
     (be-ext w s t (a + o) (b + o) (λ k p. rw (add-assoc a o k, add-assoc b o k) (h k (omega arith))))
     (fields-ext ws s t a b (o + w) (λ j p. rw (add-assoc o w j) (h (w + j) (omega arith))))
+
+-- the number in field k stands behind the k fields in front of it
+pub fields-at : (ws t : List ℕ) (at o k : ℕ) → k < length ws → getD (fields ws t at o) k 0 ≡ be (getD ws k 0) t (at + (o + size (take k ws)))
+unfolding fields
+fields-at [] t at o k h = absurd (let z : ⊥ = omega arith in z)
+fields-at (w ∷ ws) t at o zero h = rw add-zero refl
+fields-at (w ∷ ws) t at o (suc k) h = fields-at ws t at (o + w) k (omega arith) ∙ rw (add-assoc o w (size (take k ws))) refl
+
+-- a structure that starts a bytes further on
+pub fields-from : (ws t : List ℕ) (at a o : ℕ) → fields ws t (at + a) o ≡ fields ws t at (a + o)
+unfolding fields
+fields-from [] t at a o = refl
+fields-from (w ∷ ws) t at a o =
+    ap₂ (λ (x : ℕ) (l : List ℕ). x ∷ l) (rw (add-assoc at a o) refl) (fields-from ws t at a (o + w) ∙ rw (add-assoc a o w) refl)
+
+pub put-fields-from : (ws t : List ℕ) (at a o : ℕ) (vs : List ℕ) → putFields ws t (at + a) o vs ≡ putFields ws t at (a + o) vs
+unfolding putFields
+put-fields-from [] t at a o vs = refl
+put-fields-from (w ∷ ws) t at a o [] = refl
+put-fields-from (w ∷ ws) t at a o (v ∷ vs) = rw (add-assoc at a o) (put-fields-from ws (putBe w t (at + (a + o)) v) at a (o + w) vs ∙ rw (add-assoc a o w) refl)
 
 -- the numbers of a structure fit its fields
 pub fields-fit : (ws t : List ℕ) (at o : ℕ) → Bytes t → Fit ws (fields ws t at o)

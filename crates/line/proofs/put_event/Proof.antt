@@ -1,6 +1,6 @@
 -- `put_event`: a letter, eight fields and a break, one behind the other.
-use Prim.Native.Nat.{_+_, _*_}
 use borrow.Author.Needs.{needs}
+use Rattle.locks.specs.Events.{eventPlace}
 use Rattle.line.proofs.Events.{event-line}
 use Rattle.line.proofs.put_event.Statement.{statement}
 use Rattle.line.proofs.put_event.Tie as tie
@@ -11,14 +11,13 @@ returns c =
     let d = e .before .before .before .before in
     let b = d .before .before .before .before in
     let a = b .before .before .before .before in
-    let z = a .before .before .before .before in
-    let y = z .before .before in
-    event-line _ (4 + 44 * y .before .before .before .before .args .k)
-    (rw (z .before .letter-of .ensures, y .u32-at .ensures .0) at (z .put-byte .ensures))
-    (a .put-words .ensures) (b .put-words2 .ensures) (d .put-hypers .ensures) (e .put-break .ensures)
+    let l = a .before .before .before in
+    let s = l .before .before .before .before in
+    event-line _ (eventPlace (s .args .k)) _ _ (l .before .u32-at .ensures .0) (l .shown-at .ensures .0)
+    (rw (a .before .letter-of .ensures) at (a .put-byte .ensures)) (b .put-four .ensures) (d .put-four2 .ensures) (e .put-break .ensures)
 
 pub put-event-spec : {M : Type 1} → statement M
 put-event-spec =
     tie.close
     (tie.spec (search needs) (search needs) (search needs) (search needs) (search needs) (search needs) (search needs) (search needs)
-    (search needs) (search needs) (search needs) (search needs) (search needs) returns)
+    (search needs) (search needs) (search needs) returns)

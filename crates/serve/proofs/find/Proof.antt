@@ -4,8 +4,8 @@ use Prim.Native.Nat.{_-_}
 use mathlib.Core.Path.{refl}
 use Rattle.common.specs.Counters.{width}
 use Rattle.table.specs.Bytes.{locksOf}
-use Rattle.settle.specs.Posts.{Past}
-use Rattle.settle.proofs.Scan.{scan-first, scan-on, scan-none, reads, reads-not}
+use Rattle.table.specs.Places.{Past}
+use Rattle.table.proofs.Scan.{scan-first, scan-on, scan-none, reads, reads-not}
 use Rattle.serve.specs.Posts.{has}
 use Rattle.serve.proofs.find.Statement.{statement}
 use Rattle.serve.proofs.find.Tie as tie

@@ -1,8 +1,8 @@
--- `finish`: the count of the settling is the answer's.
+-- `finish`: the count of the settling is stored before the events, and is the answer's.
 use Rattle.serve.proofs.Ending.{ends}
 use borrow.Author.Needs.{needs}
 use Rattle.serve.proofs.finish.Statement.{statement}
 use Rattle.serve.proofs.finish.Tie as tie
 
 pub finish-spec : {M : Type 1} → statement M
-finish-spec = tie.close (tie.spec (λ c κs. search needs) (λ c. search needs) (λ c. search needs) (λ c. search ends))
+finish-spec = tie.close (tie.spec (λ c κs. search needs) (λ c κs. search needs) (λ c. search needs) (λ c. search needs) (λ c. search ends))

@@ -2,7 +2,7 @@
 use native.Mathlib.Omega.{arith}
 use mathlib.Core.Path.{sym, _∙_}
 use borrow.Author.Tests.{not-true, not-false}
-use Rattle.serve.proofs.Naming.{remakes, naming-refused, naming-11, remade-fits, made-good, made-served}
+use Rattle.serve.proofs.Naming.{remakes, naming-refused, naming-11, becoming-fits, made-good, made-served}
 use borrow.Author.Needs.{needs}
 use Rattle.serve.proofs.remake.Statement.{statement}
 use Rattle.serve.proofs.remake.Tie as tie
@@ -24,13 +24,13 @@ eleven c =
 put-lock-requires : tie.Need-put-lock-requires
 put-lock-requires c κs =
     let s = c .before .before .before .before .before .before .before .before .before .before .before .before in
-    (s .pre .0 .shape, c .before .before .before .before .before .before .before .before .named .ensures .inside (c .before .before .before .before .before .before .if1 .left), remade-fits (s .args .to) _ _ (c .remade .ensures) (c .before .before .before .before .lock-at .ensures .1))
+    (s .pre .0 .shape, c .before .before .before .before .before .before .before .before .named .ensures .inside (c .before .before .before .before .before .before .if1 .left), becoming-fits (s .args .to) _ _ (c .becoming .ensures) (c .before .before .before .before .lock-at .ensures .1))
 
 finish-requires : tie.Need-finish-requires
 finish-requires c κs =
     let s = c .before .before .before .before .before .before .before .before .before .before .before .before .before .before .before .before .before in (
       made-good _ _ _ _ (s .pre .0) _ (c .before .before .before .before .before .before .before .before .before .before .before .before .before .named .ensures) (c .before .before .before .before .before .before .before .before .before .before .before .if1 .left) _ (c .before .before .before .before .before .before .before .before .before .lock-at .ensures .0) (s .args .to)
-          (sym (c .before .before .before .before .before .before .before .before .ready .ensures) ∙ not-false _ (c .before .before .before .before .before .before .before .if2 .left)) _ (c .before .before .before .before .before .remade .ensures) _ (c .before .before .before .before .put-lock .ensures),
+          (sym (c .before .before .before .before .before .before .before .before .ready .ensures) ∙ not-false _ (c .before .before .before .before .before .before .before .if2 .left)) _ (c .before .before .before .before .before .becoming .ensures) _ (c .before .before .before .before .put-lock .ensures),
       s .pre .1,
     )
 
@@ -38,7 +38,7 @@ returns : tie.Need-returns-3
 returns c =
     let s = c .before .before .before .before .before .before .before .before .before .before .before .before .before .before .before .before .before .before .before .before .before .before in
     made-served _ _ _ _ (s .pre .0) _ (c .before .before .before .before .before .before .before .before .before .before .before .before .before .before .before .before .before .before .named .ensures) (c .before .before .before .before .before .before .before .before .before .before .before .before .before .before .before .before .if1 .left) _ (c .before .before .before .before .before .before .before .before .before .before .before .before .before .before .lock-at .ensures .0) (s .args .to)
-    (sym (c .before .before .before .before .before .before .before .before .before .before .before .before .before .ready .ensures) ∙ not-false _ (c .before .before .before .before .before .before .before .before .before .before .before .before .if2 .left)) _ (c .before .before .before .before .before .before .before .before .before .before .remade .ensures) _ (c .before .before .before .before .before .before .before .before .before .put-lock .ensures) _ _ _ _ (c .before .before .before .before .finish .ensures)
+    (sym (c .before .before .before .before .before .before .before .before .before .before .before .before .before .ready .ensures) ∙ not-false _ (c .before .before .before .before .before .before .before .before .before .before .before .before .if2 .left)) _ (c .before .before .before .before .before .before .before .before .before .before .becoming .ensures) _ (c .before .before .before .before .before .before .before .before .before .put-lock .ensures) _ _ _ _ (c .before .before .before .before .finish .ensures)
 
 pub remake-spec : {M : Type 1} → statement M
 remake-spec =

@@ -1,5 +1,5 @@
 -- `request`: the record that its rows let pass is added.
-use Rattle.serve.proofs.Asking.{request-refused, passed, request-fits, request-good, request-served}
+use Rattle.serve.proofs.Asking.{request-refused, allowed, request-fits, request-good, request-served}
 use borrow.Author.Needs.{needs}
 use Rattle.serve.proofs.request.Statement.{statement}
 use Rattle.serve.proofs.request.Tie as tie
@@ -8,7 +8,7 @@ put-issued-requires : tie.Need-put-issued-requires
 put-issued-requires c κs =
     let s = c .before .before .before .before .before .before .before .before in
     let a = s .args in
-    (search needs, passed (a .n) (a .client) (a .stripe) (a .mode) (a .first) (a .last) _ _ (c .before .before .before .before .request-refusal .ensures) (s .pre .0) (c .before .before .before .if1 .left) _ (c .before .issued .ensures .0) .handle)
+    (search needs, allowed (a .n) (a .client) (a .stripe) (a .mode) (a .first) (a .last) _ _ (c .before .before .before .before .request-refusal .ensures) (s .pre .0) (c .before .before .before .if1 .left) _ (c .before .issued .ensures .0) .handle)
 
 add-requires : tie.Need-add-requires
 add-requires c κs =
@@ -17,7 +17,7 @@ add-requires c κs =
     let z = c .before .before .before .before .before .before .before .if1 .left in
     let e = c .before .before .before .before .before .issued .ensures .0 in
     let a = s .args in
-    (search needs, passed (a .n) (a .client) (a .stripe) (a .mode) (a .first) (a .last) _ _ p (s .pre .0) z _ e .room, request-fits _ _ _ _ _ _ _ _ p (s .pre .0) z _ e)
+    (search needs, allowed (a .n) (a .client) (a .stripe) (a .mode) (a .first) (a .last) _ _ p (s .pre .0) z _ e .room, request-fits _ _ _ _ _ _ _ _ p (s .pre .0) z _ e)
 
 finish-requires : tie.Need-finish-requires
 finish-requires c κs =

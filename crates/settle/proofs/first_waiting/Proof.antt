@@ -5,8 +5,8 @@ use mathlib.Core.Path.{refl}
 use Rattle.common.specs.Counters.{width}
 use Rattle.table.specs.Table.{waits}
 use Rattle.table.specs.Bytes.{locksOf}
-use Rattle.settle.specs.Posts.{Past}
-use Rattle.settle.proofs.Scan.{scan-first, scan-on, scan-none, reads, reads-not}
+use Rattle.table.specs.Places.{Past}
+use Rattle.table.proofs.Scan.{scan-first, scan-on, scan-none, reads, reads-not}
 use Rattle.settle.proofs.first_waiting.Statement.{statement}
 use Rattle.settle.proofs.first_waiting.Tie as tie
 

@@ -13,20 +13,20 @@ use Rattle.settle.proofs.grants.Statement.{statement}
 use Rattle.settle.proofs.grants.Tie as tie
 
 abbrev Inv-loop : tie.InvT-loop
-Inv-loop t₀ b₀ n k₀ i₀ t b k i = (i ≤ n) × Did n 0 (turns i (tableOf width t₀)) b₀ k t b
+Inv-loop t₀ b₀ n j k₀ i₀ t b k i = (i ≤ n) × Did n j (turns i (tableOf width t₀)) b₀ k t b
 
 abbrev μ-loop : tie.MeasureT-loop
-μ-loop t₀ b₀ n k₀ i₀ t b k i = n - i
+μ-loop t₀ b₀ n j k₀ i₀ t b k i = n - i
 
 turn-requires : tie.Need-turn-requires Inv-loop μ-loop
 turn-requires c κs =
     let D = c .before .before .before .loop .inv .1 in
-    let k = turns-few _ _ _ _ _ _ _ D in
+    let k = turns-few _ _ _ _ _ _ _ _ D in
     let l = did-long _ _ _ _ _ _ _ D in
-    (search turns-good, search needs, omega arith, omega arith)
+    (search turns-good, search needs, omega arith)
 
 loop-again : tie.Need-loop-again Inv-loop μ-loop
-loop-again c = (search needs, turns-more _ _ _ _ _ _ _ _ _ _ (c .before .before .before .before .before .before .before .before .loop .inv .1) (c .before .before .before .before .turn .ensures))
+loop-again c = (search needs, turns-more _ _ _ _ _ _ _ _ _ _ _ (c .before .before .before .before .before .before .before .before .loop .inv .1) (c .before .before .before .before .turn .ensures))
 
 returns : tie.Need-returns Inv-loop μ-loop
 returns c =

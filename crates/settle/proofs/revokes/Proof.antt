@@ -7,7 +7,7 @@ use Rattle.common.specs.Counters.{width}
 use Rattle.table.specs.Bytes.{tableOf}
 use Rattle.settle.specs.Posts.{Did}
 use Rattle.settle.proofs.Written.{did-long}
-use Rattle.settle.proofs.Sweep.{sofar, sofar-none, sofar-fair, sofar-past, sofar-room, sofar-more, sofar-end}
+use Rattle.settle.proofs.Sweep.{sofar, sofar-none, sofar-moded, sofar-past, sofar-room, sofar-more, sofar-end}
 use borrow.Author.Needs.{needs}
 use Rattle.settle.proofs.revokes.Statement.{statement}
 use Rattle.settle.proofs.revokes.Tie as tie
@@ -23,8 +23,7 @@ revoke-requires c κs =
     let D = c .before .before .before .loop .inv .1 in
     let s = c .before .before .before .before .before .before in
     let S = s .pre .0 .shape in
-    let l = did-long _ _ _ _ _ _ _ D in
-    (sofar-fair _ _ S _ _ _ _ _ _ D (s .pre .0 .modes), sofar-past _ _ S _ _ _ _ _ _ D _ (s .pre .1), search needs, sofar-room _ _ S _ _ _ _ _ _ D (c .before .before .loop-test .taken) (s .pre .2), omega arith)
+    (sofar-moded _ _ S _ _ _ _ _ _ D (s .pre .0 .modes), sofar-past _ _ S _ _ _ _ _ _ D _ (s .pre .1), search needs, sofar-room _ _ S _ _ _ _ _ _ D (c .before .before .loop-test .taken) (now (s .args .b)) (did-long _ _ _ _ _ _ _ D) (s .pre .2))
 
 returns : tie.Need-returns Inv-loop μ-loop
 returns c =

@@ -1,5 +1,6 @@
 -- `turn`: each answer is a case of the turn.
-use Rattle.settle.proofs.Granting.{good-fair}
+use Rattle.settle.proofs.Granting.{good-moded}
+use native.Mathlib.Omega.{arith}
 use Rattle.settle.proofs.Turning.{turn-held, turn-blocked, turn-due}
 use borrow.Author.Needs.{needs}
 use Rattle.settle.proofs.turn.Statement.{statement}
@@ -8,8 +9,11 @@ use Rattle.settle.proofs.turn.Tie as tie
 grant-requires : tie.Need-grant-requires
 grant-requires c κs =
     let s = c .before .before .before .before .before .before .before .before .before .before .before .before in
-    (turn-due _ _ _ (s .pre .0) (s .pre .1) _ (c .before .before .before .before .before .blocked .ensures) _ _ (c .before .before .before .before .before .before .before .before .state-at .ensures) (c .before .before .before .before .before .before .before .if1 .left) (c .before .before .before .before .if2 .left) (c .before .before .lock-at .ensures .0), search needs, search needs)
+    (turn-due _ _ _ (s .pre .0) (s .pre .1) _ (c .before .before .before .before .before .blocked .ensures) _ _ (c .before .before .before .before .before .before .before .before .state-at .ensures) (c .before .before .before .before .before .before .before .if1 .left) (c .before .before .before .before .if2 .left) (c .before .before .lock-at .ensures .0), search needs)
+
+one-more : tie.Need-add-result
+one-more c = let s = c .before .before .before .before .before .before .before .before .before .before .before .before .before .before .before .before .before in omega (arith, s .pre .2, s .good)
 
 pub turn-spec : {M : Type 1} → statement M
 turn-spec =
-    tie.close (tie.spec (λ c κs. search needs) (λ c. search needs) (λ c. search turn-held) (λ c κs. search good-fair) (λ c. search needs) (λ c. search turn-blocked) (λ c κs. search needs) grant-requires (λ c. search needs) (λ c. search needs) (λ c. search needs) (λ c. search needs))
+    tie.close (tie.spec (λ c κs. search needs) (λ c. search needs) (λ c. search turn-held) (λ c κs. search good-moded) (λ c. search needs) (λ c. search turn-blocked) (λ c κs. search needs) grant-requires one-more (λ c. search needs) (λ c. search needs) (λ c. search needs))

@@ -11,7 +11,7 @@ use Rattle.common.specs.Counters.{width}
 use Rattle.common.specs.Tests.{all}
 use Rattle.table.specs.Sound.{valid}
 use Rattle.table.specs.Bytes.{tableOf, locksOf}
-use Rattle.sound.specs.Parts.{Counted, climbs}
+use Rattle.sound.specs.Parts.{Tallied, climbs}
 use Rattle.sound.proofs.Left.{records-from, records-end, each-more, each-low, each-bad, each-done}
 use Rattle.sound.proofs.Counts.{has-count, none-yet, one-more}
 use Rattle.sound.proofs.each_sound.Statement.{statement}
@@ -21,7 +21,7 @@ abbrev Inv-loop : tie.InvT-loop
 Inv-loop t n issued waiters₀ before₀ i₀ waiters before i =
     (i ≤ n)
     × ((all (valid issued (tableOf width t .lasts)) (drop i (locksOf width t)) && climbs (before .0) (drop i (locksOf width t))) ≡ (all (valid issued (tableOf width t .lasts)) (locksOf width t) && climbs 0 (locksOf width t)))
-    × Counted i waiters (locksOf width t)
+    × Tallied i waiters (locksOf width t)
 
 abbrev μ-loop : tie.MeasureT-loop
 μ-loop t n issued waiters₀ before₀ i₀ waiters before i = n - i
@@ -76,7 +76,7 @@ rooms-requires c κs =
     let l = c .before .before in
     let s = l .before .before in
     let e : l .loop .i ≡ s .args .n = omega arith in
-    (s .pre, subst (λ (k : ℕ). Counted k (l .loop .waiters) (locksOf width (now (s .args .t)))) e (l .loop .inv .2))
+    (s .pre, subst (λ (k : ℕ). Tallied k (l .loop .waiters) (locksOf width (now (s .args .t)))) e (l .loop .inv .2))
 
 returns-3 : tie.Need-returns-3 Inv-loop μ-loop
 returns-3 c =

@@ -7,19 +7,20 @@ use Prim.Native.Nat.{_-_, _≤_}
 use denote.Ref.{now}
 use Rattle.common.specs.Counters.{width}
 use Rattle.common.specs.Tests.{all}
+use Rattle.table.specs.Table.{stripeCount}
 use Rattle.table.specs.Sound.{room, stripes}
 use Rattle.table.specs.Bytes.{tableOf}
 use Rattle.sound.proofs.Left.{records-end, stripesFrom, stripes-from, stripes-end, all-more, all-done}
-use Rattle.sound.proofs.Counts.{counted}
+use Rattle.sound.proofs.Counts.{tallied}
 use Rattle.sound.proofs.rooms.Statement.{statement}
 use Rattle.sound.proofs.rooms.Tie as tie
 
 abbrev Inv-loop : tie.InvT-loop
 Inv-loop t n issued waiters ok₀ s₀ ok s =
-    (s ≤ 16) × ((ok && all (room issued (tableOf width t .lasts) (tableOf width t .locks)) (stripesFrom s)) ≡ all (room issued (tableOf width t .lasts) (tableOf width t .locks)) stripes)
+    (s ≤ stripeCount) × ((ok && all (room issued (tableOf width t .lasts) (tableOf width t .locks)) (stripesFrom s)) ≡ all (room issued (tableOf width t .lasts) (tableOf width t .locks)) stripes)
 
 abbrev μ-loop : tie.MeasureT-loop
-μ-loop t n issued waiters ok₀ s₀ ok s = 16 - s
+μ-loop t n issued waiters ok₀ s₀ ok s = stripeCount - s
 
 loop-holds : tie.Need-loop-holds Inv-loop μ-loop
 loop-holds c = (search needs, refl)
@@ -44,7 +45,7 @@ loop-again c =
     let X = tableOf width t in (
       omega arith,
       all-more (room (s .args .issued) (X .lasts) (X .locks)) _ (l .loop .ok) (l .loop .s) _ (stripes-from (l .loop .s) (omega arith))
-          (rw (c .before .before .last-of .ensures .0, counted (s .args .n) (now (s .args .waiters)) (X .locks) (s .pre .1) (records-end (s .args .n) (s .args .n) t (s .pre .0) (omega arith)) (l .loop .s) (omega arith)))
+          (rw (c .before .before .last-of .ensures .0, tallied (s .args .n) (now (s .args .waiters)) (X .locks) (s .pre .1) (records-end (s .args .n) (s .args .n) t (s .pre .0) (omega arith)) (l .loop .s) (omega arith)))
           (l .loop .inv .1),
     )
 

@@ -1,13 +1,7 @@
--- `waits_at`: the field that the code reads is that of the layout.
-use Rattle.xdr.specs.Layout.{fields}
-use Rattle.table.specs.Places.{lockAt}
+-- `waits_at`: the state that is read.
 use borrow.Author.Needs.{needs}
 use Rattle.sound.proofs.waits_at.Statement.{statement}
 use Rattle.sound.proofs.waits_at.Tie as tie
 
-returns : tie.Need-returns
-unfolding lockAt fields
-returns c = rw (c .u32-at .ensures .0)
-
 pub waits-at-spec : {M : Type 1} → statement M
-waits-at-spec = tie.close (tie.spec (search needs) (search needs) (search needs) (search needs) returns)
+waits-at-spec = tie.close (tie.spec (search needs) (λ c. rw (c .state-at .ensures)))

@@ -10,7 +10,7 @@ use Rattle.table.proofs.last_of.Tie as tie
 returns : tie.Need-returns
 returns c =
     let s = c .before .before in
-    (c .u32-at .ensures .0 ∙ sym (last-at (now (s .args .t)) (s .args .s) (s .pre .1)), omega arith)
+    (c .counter-at .ensures .0 ∙ sym (last-at (now (s .args .t)) (s .args .s) (s .pre .1)), omega arith)
 
 pub last-of-spec : {M : Type 1} → statement M
 last-of-spec = tie.close (tie.spec (search needs) (search needs) (search needs) returns)

@@ -3,13 +3,14 @@ use native.Mathlib.Omega.{arith}
 use mathlib.Core.Path.{_≡_}
 use Prim.Native.Nat.{ℕ, _+_, _-_, _≤_, _<_}
 use denote.Ref.{now}
+use Rattle.table.specs.Table.{maxRecords}
 use Rattle.table.proofs.Removing.{Closing, closing-none, closing-more, closed}
 use borrow.Author.Needs.{needs}
 use Rattle.table.proofs.remove.Statement.{statement}
 use Rattle.table.proofs.remove.Tie as tie
 
 abbrev Inv-loop : tie.InvT-loop
-Inv-loop t₀ n i k₀ t k = (k < n) × (n ≤ 256) × Closing n i k t₀ t
+Inv-loop t₀ n i k₀ t k = (k < n) × (n ≤ maxRecords) × Closing n i k t₀ t
 
 abbrev μ-loop : tie.MeasureT-loop
 μ-loop t₀ n i k₀ t k = n - k
