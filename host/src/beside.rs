@@ -7,6 +7,7 @@
 use crate::calls::{Calls, MODEL};
 use crate::model::locks::{decode, event_at, Answer};
 use crate::model::serve::Message;
+use crate::model::stripe::Piece;
 use std::collections::BTreeSet;
 use std::fmt::{Arguments, Debug};
 use std::panic::{catch_unwind, AssertUnwindSafe};
@@ -26,6 +27,14 @@ impl Beside {
 
     fn compared(&self) -> u64 {
         self.answers.iter().sum()
+    }
+
+    /// What another compared is counted here too.
+    pub fn join(&mut self, other: Beside) {
+        for (here, there) in self.answers.iter_mut().zip(other.answers) {
+            *here += there;
+        }
+        self.events.extend(other.events);
     }
 
     /// At least so many calls were compared, and their answers were these numbers and no others.
@@ -56,19 +65,15 @@ impl Beside {
         &mut self,
         map: &mut [u8],
         log: &mut [u8],
-        first: u64,
-        length: u64,
-        number: u64,
+        piece: Piece<u64>,
         image_length: u64,
     ) -> u64 {
         let (mut lent_map, mut lent_log) = (self.lend(map), self.lend(log));
         let (m, l) = (lent_map.bytes(), lent_log.bytes());
-        let tested = (self.calls.note)(m, l, first, length, number, image_length);
-        let answer = (MODEL.note)(map, log, first, length, number, image_length);
+        let tested = (self.calls.note)(m, l, piece, image_length);
+        let answer = (MODEL.note)(map, log, piece, image_length);
         self.agree(
-            format_args!(
-                "note first {first}, length {length}, number {number}, image length {image_length}"
-            ),
+            format_args!("note {piece:?}, image length {image_length}"),
             tested,
             answer,
             &[("map", lent_map, map), ("log", lent_log, log)],
@@ -77,27 +82,22 @@ impl Beside {
         answer
     }
 
-    pub fn write(
-        &mut self,
-        map: &[u8],
-        image: &mut [u8],
-        first: u64,
-        piece: &[u8],
-        number: u64,
-    ) -> u64 {
+    pub fn write(&mut self, map: &[u8], image: &mut [u8], piece: Piece<&[u8]>) -> u64 {
         let (mut lent_map, mut lent_image) = (self.lend(map), self.lend(image));
-        let mut lent_piece = self.lend(piece);
-        let (m, i, p) = (lent_map.bytes(), lent_image.bytes(), lent_piece.bytes());
-        let tested = (self.calls.write)(m, i, first, p, number);
-        let answer = (MODEL.write)(map, image, first, piece, number);
-        let (length, image_length) = (piece.len(), image.len());
+        let mut lent_bytes = self.lend(piece.bytes);
+        let (m, i, bytes) = (lent_map.bytes(), lent_image.bytes(), &*lent_bytes.bytes());
+        let tested = (self.calls.write)(m, i, Piece { bytes, ..piece });
+        let answer = (MODEL.write)(map, image, piece);
+        let (outline, image_length) = (piece.outline(), image.len());
         self.agree(
-            format_args!(
-                "write first {first}, length {length}, number {number}, image length {image_length}"
-            ),
+            format_args!("write {outline:?}, image length {image_length}"),
             tested,
             answer,
-            &[("map", lent_map, map), ("image", lent_image, image), ("piece", lent_piece, piece)],
+            &[
+                ("map", lent_map, map),
+                ("image", lent_image, image),
+                ("piece", lent_bytes, piece.bytes),
+            ],
         );
         self.answers[answer as usize] += 1;
         answer
@@ -164,10 +164,12 @@ impl Lent {
     /// The first byte that differs from the buffer as the model left it; before byte 0 and after
     /// the last one stand the guards.
     fn differs(&self, buffer: &[u8]) -> Option<isize> {
-        let expected = Lent::new(buffer, self.start).guarded;
-        if self.guarded == expected {
+        let (before, rest) = self.guarded.split_at(self.start);
+        let (lent, after) = rest.split_at(buffer.len());
+        if before == &GUARD[..self.start] && lent == buffer && after == GUARD {
             return None;
         }
+        let expected = Lent::new(buffer, self.start).guarded;
         let at = (0..expected.len()).find(|&at| self.guarded[at] != expected[at])?;
         Some(at as isize - self.start as isize)
     }

@@ -3,13 +3,14 @@
 
 use crate::model::locks::Answer;
 use crate::model::serve::Message;
+use crate::model::stripe::Piece;
 use crate::{entries, model, shipped};
 
 pub type Request = fn(&mut [u8], &mut [u8], u64, u64, u64, u64, u64) -> Answer;
 /// Acknowledge, downgrade and release, which name a handle.
 pub type Naming = fn(&mut [u8], &mut [u8], u64, u64) -> Answer;
-pub type Note = fn(&mut [u8], &mut [u8], u64, u64, u64, u64) -> u64;
-pub type Write = fn(&[u8], &mut [u8], u64, &[u8], u64) -> u64;
+pub type Note = fn(&mut [u8], &mut [u8], Piece<u64>, u64) -> u64;
+pub type Write = fn(&[u8], &mut [u8], Piece<&[u8]>) -> u64;
 pub type Restart = fn(&mut [u8], &[u8]) -> u64;
 
 #[derive(Clone, Copy)]
@@ -64,8 +65,12 @@ pub const LIBRARY: Calls = Calls {
     release: |table, events, client, handle| {
         answer(entries::release(table, events, client, handle))
     },
-    note: entries::note,
-    write: entries::write,
+    note: |map, log, Piece { first, bytes, number }, image_length| {
+        entries::note(map, log, first, bytes, number, image_length)
+    },
+    write: |map, image, Piece { first, bytes, number }| {
+        entries::write(map, image, first, bytes, number)
+    },
     restart: entries::restart,
 };
 

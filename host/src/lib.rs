@@ -6,7 +6,7 @@
 //! last, even after a restart, doesn't beat a later grant:
 //!
 //! ```
-//! use gilboreth_host::{EventBuffer, Handle, Log, Map, Mode, Table};
+//! use gilboreth_host::{EventBuffer, Handle, Log, Map, Mode, Piece, Table};
 //!
 //! // Client 0 holds the bytes 0 to 9. Client 1 asks for 4 to 7, and is granted them as soon as
 //! // client 0 has acknowledged, before it has flushed.
@@ -20,14 +20,16 @@
 //! // Client 1 flushes first.
 //! let (mut map, mut log) = (Map::new(), Log::new());
 //! let mut image = *b"..........";
-//! map.note(&mut log, 4, 4, later, 10)?;
-//! map.write(&mut image, 4, b"LLLL", later)?;
+//! let piece = Piece { first: 4, bytes: &b"LLLL"[..], number: later };
+//! map.note(&mut log, piece.outline(), 10)?;
+//! map.write(&mut image, piece)?;
 //!
 //! // The server is cut: the map is lost, image and log stay. Then the old flush arrives.
 //! let mut map = Map::new();
 //! map.restart(&log)?;
-//! map.note(&mut log, 0, 10, old, 10)?;
-//! map.write(&mut image, 0, b"OOOOOOOOOO", old)?;
+//! let piece = Piece { first: 0, bytes: &b"OOOOOOOOOO"[..], number: old };
+//! map.note(&mut log, piece.outline(), 10)?;
+//! map.write(&mut image, piece)?;
 //! assert_eq!(&image, b"OOOOLLLLOO");
 //! # Ok::<(), gilboreth_host::Refusal>(())
 //! ```

@@ -34,8 +34,13 @@ impl Random {
 
     /// Fills the bytes with anything.
     pub fn fill(&mut self, bytes: &mut [u8]) {
-        for part in bytes.chunks_mut(8) {
-            part.copy_from_slice(&self.draw().to_be_bytes()[..part.len()]);
+        let mut parts = bytes.chunks_exact_mut(8);
+        for part in &mut parts {
+            part.copy_from_slice(&self.draw().to_be_bytes());
+        }
+        let rest = parts.into_remainder();
+        if !rest.is_empty() {
+            rest.copy_from_slice(&self.draw().to_be_bytes()[..rest.len()]);
         }
     }
 }

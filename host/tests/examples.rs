@@ -8,7 +8,7 @@ mod transcript;
 
 use both::{note, restart, write};
 use gilboreth_host::model::locks::{EVENTS_BYTES, TABLE_BYTES};
-use gilboreth_host::model::stripe::{LOG_BYTES, MAP_BYTES};
+use gilboreth_host::model::stripe::{Piece, LOG_BYTES, MAP_BYTES};
 use gilboreth_host::{EventBuffer, Log, Map, Table};
 use runs::runs;
 use transcript::{play, play_on};
@@ -120,19 +120,18 @@ fn p6_and_p7() {
     );
 }
 
-/// A piece of P8: its first byte, bytes and number.
-type Piece = (u64, &'static [u8], u64);
-
-const A: Piece = (0, b"AAAAAA", 2);
-const B: Piece = (4, b"BBBB", 1);
-const C: Piece = (5, b"CCC", 3);
-const ORDERS: [[Piece; 3]; 6] = [[A, B, C], [A, C, B], [B, A, C], [B, C, A], [C, A, B], [C, B, A]];
+/// The pieces of P8.
+const A: Piece<&[u8]> = Piece::new(0, b"AAAAAA", 2);
+const B: Piece<&[u8]> = Piece::new(4, b"BBBB", 1);
+const C: Piece<&[u8]> = Piece::new(5, b"CCC", 3);
+const ORDERS: [[Piece<&[u8]>; 3]; 6] =
+    [[A, B, C], [A, C, B], [B, A, C], [B, C, A], [C, A, B], [C, B, A]];
 
 /// The map and log after the pieces are noted in this order on an image of ten bytes.
-fn noted(order: [Piece; 3]) -> (Vec<u8>, Vec<u8>) {
+fn noted(order: [Piece<&[u8]>; 3]) -> (Vec<u8>, Vec<u8>) {
     let (mut map, mut log) = (vec![0; MAP_BYTES], vec![0; LOG_BYTES]);
-    for (first, piece, number) in order {
-        assert_eq!(note(&mut map, &mut log, first, piece.len() as u64, number, 10), 0);
+    for piece in order {
+        assert_eq!(note(&mut map, &mut log, piece.outline(), 10), 0);
     }
     (map, log)
 }
@@ -144,8 +143,8 @@ fn p8() {
         assert!(map == runs(20_484, &[(0, 4, 2), (5, 7, 3)]));
         for order in ORDERS {
             let mut image = *b"..........";
-            for (first, piece, number) in order {
-                assert_eq!(write(&map, &mut image, first, piece, number), 0);
+            for piece in order {
+                assert_eq!(write(&map, &mut image, piece), 0);
             }
             assert_eq!(&image, b"AAAAACCC..");
         }
@@ -162,7 +161,7 @@ fn p8_log() {
 #[test]
 fn p9() {
     let (mut map, mut log) = noted([A, B, C]);
-    assert_eq!(note(&mut map, &mut log, 8, 2, 3, 10), 0);
+    assert_eq!(note(&mut map, &mut log, Piece::new(8, 2, 3), 10), 0);
     assert!(map == runs(20_484, &[(0, 4, 2), (5, 9, 3)]));
     let mut rebuilt = vec![0xEE; MAP_BYTES];
     assert_eq!(restart(&mut rebuilt, &log), 0);
@@ -173,10 +172,10 @@ fn p9() {
 fn p10_and_p11() {
     let (mut map, mut log) = noted([A, B, C]);
     let mut image = *b"..........";
-    assert_eq!(note(&mut map, &mut log, 8, 2, 3, 10), 0);
-    assert_eq!(write(&map, &mut image, 8, b"DD", 4), 18);
-    assert_eq!(write(&map, &mut image, 8, b"", 3), 14);
-    assert_eq!(note(&mut map, &mut log, 8, 0, 3, 10), 14);
+    assert_eq!(note(&mut map, &mut log, Piece::new(8, 2, 3), 10), 0);
+    assert_eq!(write(&map, &mut image, Piece::new(8, b"DD", 4)), 18);
+    assert_eq!(write(&map, &mut image, Piece::new(8, b"", 3)), 14);
+    assert_eq!(note(&mut map, &mut log, Piece::new(8, 0, 3), 10), 14);
     assert_eq!(&image, b"..........");
 }
 
@@ -205,12 +204,12 @@ fn run_only_runs() {
     let (mut map, mut log) = (vec![0; MAP_BYTES], vec![0; LOG_BYTES]);
     let mut list: Vec<_> = (0..1_024).map(|place| (2 * place, 2 * place, 5)).collect();
     for (first, _, _) in &list {
-        assert_eq!(note(&mut map, &mut log, *first, 1, 5, 4_096), 0);
+        assert_eq!(note(&mut map, &mut log, Piece::new(*first, 1, 5), 4_096), 0);
     }
-    assert_eq!(note(&mut map, &mut log, 2_048, 1, 5, 4_096), 16);
-    assert_eq!(note(&mut map, &mut log, 1_000, 1, 5, 4_096), 0);
+    assert_eq!(note(&mut map, &mut log, Piece::new(2_048, 1, 5), 4_096), 16);
+    assert_eq!(note(&mut map, &mut log, Piece::new(1_000, 1, 5), 4_096), 0);
     assert!(map == runs(20_484, &list));
-    assert_eq!(note(&mut map, &mut log, 1_000, 1, 6, 4_096), 0);
+    assert_eq!(note(&mut map, &mut log, Piece::new(1_000, 1, 6), 4_096), 0);
     list[500].2 = 6;
     assert!(map == runs(20_484, &list));
 }

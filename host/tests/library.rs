@@ -8,8 +8,8 @@ use gilboreth_host::model::stripe::{decode_log, decode_map, LOG_BYTES, MAP_BYTES
 use gilboreth_host::model::{self, modes, runs, stripe, table};
 use gilboreth_host::random::{for_seeds, Random};
 use gilboreth_host::{
-    Answer, Event, EventBuffer, Handle, Kind, Log, Map, Mode, Number, Record, Refusal, Run, State,
-    Table, EOF,
+    Answer, Event, EventBuffer, Handle, Kind, Log, Map, Mode, Number, Piece, Record, Refusal, Run,
+    State, Table, EOF,
 };
 use messages::message;
 
@@ -124,15 +124,24 @@ fn stripes() {
             let (number, old) = (random.below(5), image);
             let (answered, expected) = match random.below(9) {
                 0..=3 => (
-                    map.note(&mut log, first, length, Number(number), 40),
-                    stripe::note(&mut model_map, &mut model_log, first, length, number, 40),
+                    map.note(&mut log, Piece { first, bytes: length, number: Number(number) }, 40),
+                    stripe::note(
+                        &mut model_map,
+                        &mut model_log,
+                        stripe::Piece::new(first, length, number),
+                        40,
+                    ),
                 ),
                 4..=7 => {
                     let piece = vec![random.draw() as u8; length as usize];
                     let mut model_image = old;
-                    let written = map.write(&mut image, first, &piece, Number(number));
-                    let expected =
-                        stripe::write(&model_map, &mut model_image, first, &piece, number);
+                    let written = map
+                        .write(&mut image, Piece { first, bytes: &piece, number: Number(number) });
+                    let expected = stripe::write(
+                        &model_map,
+                        &mut model_image,
+                        stripe::Piece::new(first, &piece, number),
+                    );
                     assert_eq!(image, model_image);
                     (written, expected)
                 }
@@ -156,6 +165,8 @@ fn stripes() {
     });
 }
 
+const PIECE: Piece<&[u8]> = Piece { first: 0, bytes: b"A", number: Number(1) };
+
 /// Any bytes can be looked at. The entries refuse those that aren't sound, and leave them.
 #[test]
 fn bytes_that_are_not_sound() {
@@ -174,9 +185,9 @@ fn bytes_that_are_not_sound() {
         let mut events = EventBuffer::new();
         let answer = table.release(&mut events, 0, Handle(1));
         assert_eq!(answer.err(), Some(Refusal::Table));
-        assert_eq!(map.note(&mut log, 0, 1, Number(1), 1), Err(Refusal::Map));
-        assert_eq!(Map::new().note(&mut log, 0, 1, Number(1), 1), Err(Refusal::Log));
-        assert_eq!(map.write(&mut [0], 0, b"A", Number(1)), Err(Refusal::Map));
+        assert_eq!(map.note(&mut log, PIECE.outline(), 1), Err(Refusal::Map));
+        assert_eq!(Map::new().note(&mut log, PIECE.outline(), 1), Err(Refusal::Log));
+        assert_eq!(map.write(&mut [0], PIECE), Err(Refusal::Map));
         assert_eq!(map.restart(&log), Err(Refusal::Log));
         assert!(table == old_table && map == old_map && log == old_log);
     }
@@ -198,7 +209,8 @@ fn records_without_meaning() {
 #[test]
 fn over_the_callers_bytes() {
     let (mut map, mut log) = ([0; MAP_BYTES], [0; LOG_BYTES]);
-    Map::over(&mut map).note(Log::over(&mut log), 2, 3, Number(7), 10).unwrap();
+    let piece = Piece { first: 2, bytes: 3, number: Number(7) };
+    Map::over(&mut map).note(Log::over(&mut log), piece, 10).unwrap();
     let mut again = Map::new();
     again.restart(&Log::from(log)).unwrap();
     assert!(again.bytes() == &map);

@@ -8,16 +8,26 @@ use gilboreth_host::beside::{finds_out, Beside};
 use gilboreth_host::calls::{Calls, LIBRARY};
 use gilboreth_host::model::locks::{event_at, Answer};
 use lock_scenes::{damage, drawn, edges, limits, sessions};
+use std::thread::scope;
 
 /// Four sorts of sessions, which differ in how fast their tables fill. They reach every refusal
 /// and every event: grants of each mode in states 1 and 3, revocations of each mode in state 2.
 #[test]
 fn sessions() {
+    let sorts = [(0..150, 3), (150..300, 3), (0..150, 4), (150..300, 4), (0..100, 6), (0..20, 9)];
     let mut library = Beside::new(LIBRARY);
-    sessions::play(&mut library, 0..300, 3);
-    sessions::play(&mut library, 0..300, 4);
-    sessions::play(&mut library, 0..100, 6);
-    sessions::play(&mut library, 0..20, 9);
+    scope(|threads| {
+        let played = sorts.map(|(seeds, requests)| {
+            threads.spawn(move || {
+                let mut library = Beside::new(LIBRARY);
+                sessions::play(&mut library, seeds, requests);
+                library
+            })
+        });
+        for part in played {
+            library.join(part.join().unwrap());
+        }
+    });
     library.reached(230_400, &[0, 1, 2, 3, 4, 5, 6, 7, 8, 9, 10, 11]);
     let kinds = [[1, 1], [1, 3], [2, 2]];
     let events = kinds.iter().flat_map(|[kind, state]| (1..=4).map(|mode| [*kind, mode, *state]));

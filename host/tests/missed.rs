@@ -9,7 +9,7 @@ mod transcript;
 use both::{note, restart, write};
 use gilboreth_host::model::locks::encode;
 use gilboreth_host::model::modes::{Mode, State};
-use gilboreth_host::model::stripe::{run_at, LOG_BYTES, MAP_BYTES};
+use gilboreth_host::model::stripe::{run_at, Piece, LOG_BYTES, MAP_BYTES};
 use gilboreth_host::model::table::{Record, Table};
 use runs::runs;
 use transcript::{play, play_on};
@@ -293,10 +293,10 @@ fn empty() -> (Vec<u8>, Vec<u8>) {
 fn an_equal_number_is_written_again() {
     let (mut map, mut log) = empty();
     let mut image = *b"......";
-    assert_eq!(note(&mut map, &mut log, 1, 3, 2, 6), 0);
-    assert_eq!(write(&map, &mut image, 1, b"AAA", 2), 0);
+    assert_eq!(note(&mut map, &mut log, Piece::new(1, 3, 2), 6), 0);
+    assert_eq!(write(&map, &mut image, Piece::new(1, b"AAA", 2)), 0);
     image[1..4].copy_from_slice(b"?A?");
-    assert_eq!(write(&map, &mut image, 1, b"AAA", 2), 0);
+    assert_eq!(write(&map, &mut image, Piece::new(1, b"AAA", 2)), 0);
     assert_eq!(&image, b".AAA..");
 }
 
@@ -305,8 +305,8 @@ fn an_equal_number_is_written_again() {
 fn a_smaller_number_is_accepted_and_not_stored() {
     let (mut map, mut log) = empty();
     let mut image = *b"......";
-    assert_eq!(note(&mut map, &mut log, 0, 6, 4, 6), 0);
-    assert_eq!(write(&map, &mut image, 0, b"AAAAAA", 3), 0);
+    assert_eq!(note(&mut map, &mut log, Piece::new(0, 6, 4), 6), 0);
+    assert_eq!(write(&map, &mut image, Piece::new(0, b"AAAAAA", 3)), 0);
     assert_eq!(&image, b"......");
 }
 
@@ -315,9 +315,9 @@ fn a_smaller_number_is_accepted_and_not_stored() {
 fn a_gap_refuses_the_whole_write() {
     let (mut map, mut log) = empty();
     let mut image = *b"......";
-    assert_eq!(note(&mut map, &mut log, 0, 5, 2, 6), 0);
-    assert_eq!(write(&map, &mut image, 0, b"AAAAAA", 2), 18);
-    assert_eq!(write(&map, &mut image, 5, b"A", 1), 18);
+    assert_eq!(note(&mut map, &mut log, Piece::new(0, 5, 2), 6), 0);
+    assert_eq!(write(&map, &mut image, Piece::new(0, b"AAAAAA", 2)), 18);
+    assert_eq!(write(&map, &mut image, Piece::new(5, b"A", 1)), 18);
     assert_eq!(&image, b"......");
 }
 
@@ -326,13 +326,13 @@ fn a_gap_refuses_the_whole_write() {
 fn an_old_piece_noted_after_a_restart() {
     let (mut map, mut log) = empty();
     let mut image = *b"..........";
-    assert_eq!(note(&mut map, &mut log, 4, 4, 3, 10), 0);
-    assert_eq!(write(&map, &mut image, 4, b"NNNN", 3), 0);
+    assert_eq!(note(&mut map, &mut log, Piece::new(4, 4, 3), 10), 0);
+    assert_eq!(write(&map, &mut image, Piece::new(4, b"NNNN", 3)), 0);
     map.fill(0xEE);
     assert_eq!(restart(&mut map, &log), 0);
-    assert_eq!(note(&mut map, &mut log, 0, 10, 2, 10), 0);
+    assert_eq!(note(&mut map, &mut log, Piece::new(0, 10, 2), 10), 0);
     assert!(map == runs(MAP_BYTES, &[(0, 3, 2), (4, 7, 3), (8, 9, 2)]));
-    assert_eq!(write(&map, &mut image, 0, b"OOOOOOOOOO", 2), 0);
+    assert_eq!(write(&map, &mut image, Piece::new(0, b"OOOOOOOOOO", 2)), 0);
     assert_eq!(&image, b"OOOONNNNOO");
     map.fill(0xEE);
     assert_eq!(restart(&mut map, &log), 0);
@@ -345,7 +345,7 @@ fn bytes_after_the_entries_stay() {
     let mut map = runs(MAP_BYTES, &[(0, 3, 2)]);
     let mut log = runs(LOG_BYTES, &[(0, 3, 2)]);
     log[run_at(1)..].fill(0xEE);
-    assert_eq!(note(&mut map, &mut log, 4, 1, 7, 5), 0);
+    assert_eq!(note(&mut map, &mut log, Piece::new(4, 1, 7), 5), 0);
     let mut expected = runs(LOG_BYTES, &[(0, 3, 2), (4, 4, 7)]);
     expected[run_at(2)..].fill(0xEE);
     assert!(log == expected);
@@ -378,7 +378,7 @@ fn pieces_at_the_limits() {
         (0, 1, 4_294_967_297, 10, 15),
     ] {
         let (mut map, mut log) = empty();
-        let answered = note(&mut map, &mut log, first, length, number, image_length);
+        let answered = note(&mut map, &mut log, Piece::new(first, length, number), image_length);
         assert_eq!(answered, answer, "{first} {length} {number} {image_length}");
         let noted = (first, first.wrapping_add(length).wrapping_sub(1), number as u32);
         let expected = if answer == 0 { vec![noted] } else { vec![] };
@@ -386,9 +386,9 @@ fn pieces_at_the_limits() {
     }
     let (map, _) = empty();
     let mut image = *b"......";
-    assert_eq!(write(&map, &mut image, MOST, b"A", 1), 14);
-    assert_eq!(write(&map, &mut image, 6, b"A", 1), 14);
-    assert_eq!(write(&map, &mut image, 0, b"A", 4_294_967_297), 15);
+    assert_eq!(write(&map, &mut image, Piece::new(MOST, b"A", 1)), 14);
+    assert_eq!(write(&map, &mut image, Piece::new(6, b"A", 1)), 14);
+    assert_eq!(write(&map, &mut image, Piece::new(0, b"A", 4_294_967_297)), 15);
 }
 
 /// 1,025 bytes apart need too many runs; one entry over them all needs one.

@@ -9,7 +9,7 @@ mod runs;
 use gilboreth_host::model::locks::{encode, Answer, EVENTS_BYTES as EVENTS};
 use gilboreth_host::model::modes::{Mode, State};
 use gilboreth_host::model::serve::Message;
-use gilboreth_host::model::stripe::{LOG_BYTES as LOG, MAP_BYTES as MAP};
+use gilboreth_host::model::stripe::{Piece, LOG_BYTES as LOG, MAP_BYTES as MAP};
 use gilboreth_host::model::table::{Record, Table};
 use runs::runs;
 
@@ -100,7 +100,8 @@ fn log(count: usize) -> Vec<u8> {
 fn note() {
     let answers = |refusal: u64, map: &[u8], log: &[u8], first, length, number, image_length| {
         let (mut new_map, mut new_log) = (map.to_vec(), log.to_vec());
-        let answered = both::note(&mut new_map, &mut new_log, first, length, number, image_length);
+        let answered =
+            both::note(&mut new_map, &mut new_log, Piece::new(first, length, number), image_length);
         assert_eq!(answered, refusal);
         assert_eq!(new_map == map, refusal != 0);
         assert_eq!(new_log == log, refusal != 0);
@@ -123,7 +124,7 @@ fn write() {
     let map = runs(MAP, &[(0, 5, 2)]);
     let answers = |refusal: u64, map: &[u8], first, piece: &[u8], number, image: &[u8]| {
         let mut new_image = *b"......";
-        let answered = both::write(map, &mut new_image, first, piece, number);
+        let answered = both::write(map, &mut new_image, Piece::new(first, piece, number));
         assert_eq!(answered, refusal);
         assert_eq!(new_image, image);
     };

@@ -3,7 +3,7 @@
 
 use gilboreth_host::random::{for_seeds, Random};
 use gilboreth_host::{
-    Answer, EventBuffer, Handle, Kind, Log, Map, Mode, Number, Record, Refusal, Table,
+    Answer, EventBuffer, Handle, Kind, Log, Map, Mode, Number, Piece, Record, Refusal, Table,
 };
 
 /// A stripe of a server: its map in memory, its log and image on disk.
@@ -18,18 +18,17 @@ impl Stripe {
         Stripe { map: Map::new(), log: Log::new(), image: image.to_vec() }
     }
 
-    fn note(&mut self, first: u64, piece: &[u8], number: Number) -> Result<(), Refusal> {
-        let image_length = self.image.len() as u64;
-        self.map.note(&mut self.log, first, piece.len() as u64, number, image_length)
+    fn note(&mut self, piece: Piece<&[u8]>) -> Result<(), Refusal> {
+        self.map.note(&mut self.log, piece.outline(), self.image.len() as u64)
     }
 
-    fn write(&mut self, first: u64, piece: &[u8], number: Number) -> Result<(), Refusal> {
-        self.map.write(&mut self.image, first, piece, number)
+    fn write(&mut self, piece: Piece<&[u8]>) -> Result<(), Refusal> {
+        self.map.write(&mut self.image, piece)
     }
 
-    fn flush(&mut self, first: u64, piece: &[u8], number: Number) {
-        self.note(first, piece, number).unwrap();
-        self.write(first, piece, number).unwrap();
+    fn flush(&mut self, piece: Piece<&[u8]>) {
+        self.note(piece).unwrap();
+        self.write(piece).unwrap();
     }
 
     /// The server is cut and comes back. The map is lost, and no restart is refused.
@@ -46,21 +45,16 @@ impl Stripe {
     }
 
     /// A cut in a note leaves the new log.
-    fn cut_note_and_new_log(&mut self, first: u64, piece: &[u8], number: Number) {
-        self.note(first, piece, number).unwrap();
+    fn cut_note_and_new_log(&mut self, piece: Piece<&[u8]>) {
+        self.note(piece).unwrap();
         self.cut();
     }
 
     /// A cut in a write leaves anything at the places that it would store.
-    fn cut_write(
-        &mut self,
-        first: u64,
-        piece: &[u8],
-        number: Number,
-        mut left: impl FnMut() -> u8,
-    ) {
+    fn cut_write(&mut self, piece: Piece<&[u8]>, mut left: impl FnMut() -> u8) {
+        let Piece { first, bytes, number } = piece;
         let numbers: Vec<Number> =
-            (first..).zip(piece).map(|(at, _)| self.map.number_at(at)).collect();
+            (first..).zip(bytes).map(|(at, _)| self.map.number_at(at)).collect();
         if numbers.iter().all(|&under| under >= number) {
             for (place, _) in numbers.iter().enumerate().filter(|(_, &under)| under == number) {
                 self.image[first as usize + place] = left();
@@ -87,22 +81,29 @@ fn two_grants() -> (Number, Number) {
     (old, later)
 }
 
+/// What client 0 flushes of the whole stripe, and client 1 of the bytes 4 to 7.
+fn flushes() -> (Piece<&'static [u8]>, Piece<&'static [u8]>) {
+    let (old, later) = two_grants();
+    let old = Piece { first: 0, bytes: &b"OOOOOOOOOO"[..], number: old };
+    (old, Piece { first: 4, bytes: &b"LLLL"[..], number: later })
+}
+
 #[test]
 fn the_old_flush_arrives_last() {
-    let (old, later) = two_grants();
+    let (old, later) = flushes();
     let mut stripe = Stripe::new(b"..........");
-    stripe.flush(4, b"LLLL", later);
-    stripe.flush(0, b"OOOOOOOOOO", old);
+    stripe.flush(later);
+    stripe.flush(old);
     assert_eq!(stripe.image, b"OOOOLLLLOO");
 }
 
 #[test]
 fn the_old_flush_arrives_last_after_a_restart() {
-    let (old, later) = two_grants();
+    let (old, later) = flushes();
     let mut stripe = Stripe::new(b"..........");
-    stripe.flush(4, b"LLLL", later);
+    stripe.flush(later);
     stripe.cut();
-    stripe.flush(0, b"OOOOOOOOOO", old);
+    stripe.flush(old);
     assert_eq!(stripe.image, b"OOOOLLLLOO");
 }
 
@@ -110,27 +111,27 @@ fn the_old_flush_arrives_last_after_a_restart() {
 /// its write. Each time the server comes back and the piece is sent again.
 #[test]
 fn the_old_flush_arrives_last_after_cuts() {
-    let (old, later) = two_grants();
+    let (old, later) = flushes();
     let mut stripe = Stripe::new(b"..........");
-    stripe.flush(4, b"LLLL", later);
+    stripe.flush(later);
     stripe.cut_note_and_old_log();
-    stripe.cut_note_and_new_log(0, b"OOOOOOOOOO", old);
-    stripe.cut_write(0, b"OOOOOOOOOO", old, || b'?');
+    stripe.cut_note_and_new_log(old);
+    stripe.cut_write(old, || b'?');
     assert_eq!(stripe.image, b"????LLLL??");
-    stripe.write(0, b"OOOOOOOOOO", old).unwrap();
+    stripe.write(old).unwrap();
     assert_eq!(stripe.image, b"OOOOLLLLOO");
 }
 
 /// The later grant's write was cut before the old flush arrived. Its place isn't taken.
 #[test]
 fn the_old_flush_arrives_between_a_cut_and_the_resend() {
-    let (old, later) = two_grants();
+    let (old, later) = flushes();
     let mut stripe = Stripe::new(b"..........");
-    stripe.note(4, b"LLLL", later).unwrap();
-    stripe.cut_write(4, b"LLLL", later, || b'?');
-    stripe.flush(0, b"OOOOOOOOOO", old);
+    stripe.note(later).unwrap();
+    stripe.cut_write(later, || b'?');
+    stripe.flush(old);
     assert_eq!(stripe.image, b"OOOO????OO");
-    stripe.write(4, b"LLLL", later).unwrap();
+    stripe.write(later).unwrap();
     assert_eq!(stripe.image, b"OOOOLLLLOO");
 }
 
@@ -164,12 +165,18 @@ fn grants(random: &mut Random) -> Vec<Record> {
 }
 
 /// A piece of a grant: the place of the grant in its session, and the piece.
-struct Piece {
+struct Flush {
     grant: usize,
     number: Number,
     first: u64,
     bytes: Vec<u8>,
     noted: bool,
+}
+
+impl Flush {
+    fn piece(&self) -> Piece<&[u8]> {
+        Piece { first: self.first, bytes: &self.bytes, number: self.number }
+    }
 }
 
 /// The byte that a grant's holder has at a place. It flushes each byte once, so its pieces agree.
@@ -179,7 +186,7 @@ fn byte(grant: usize, place: u64) -> u8 {
 }
 
 /// One to three pieces of each grant, inside of its range.
-fn pieces(random: &mut Random, grants: &[Record]) -> Vec<Piece> {
+fn pieces(random: &mut Random, grants: &[Record]) -> Vec<Flush> {
     let mut pieces = Vec::new();
     for (grant, lock) in grants.iter().enumerate() {
         let end = (lock.last + 1).min(IMAGE);
@@ -187,7 +194,7 @@ fn pieces(random: &mut Random, grants: &[Record]) -> Vec<Piece> {
             let first = lock.first + random.below(end - lock.first);
             let last = first + random.below(end - first);
             let bytes = (first..=last).map(|place| byte(grant, place)).collect();
-            pieces.push(Piece { grant, number: lock.number, first, bytes, noted: false });
+            pieces.push(Flush { grant, number: lock.number, first, bytes, noted: false });
         }
     }
     pieces
@@ -213,14 +220,14 @@ fn flushes_in_any_order() {
                 stripe.cut();
             }
             if !piece.noted {
-                stripe.note(piece.first, &piece.bytes, piece.number).unwrap();
+                stripe.note(piece.piece()).unwrap();
                 piece.noted = true;
             }
-            stripe.write(piece.first, &piece.bytes, piece.number).unwrap();
+            stripe.write(piece.piece()).unwrap();
         }
 
         for place in 0..IMAGE {
-            let over = |piece: &&Piece| {
+            let over = |piece: &&Flush| {
                 piece.noted
                     && (piece.first..piece.first + piece.bytes.len() as u64).contains(&place)
             };
@@ -235,23 +242,22 @@ fn flushes_in_any_order() {
 }
 
 /// One note or write of a piece, cut or whole.
-fn step(stripe: &mut Stripe, random: &mut Random, piece: &mut Piece) {
-    let Piece { number, first, bytes, noted, .. } = piece;
+fn step(stripe: &mut Stripe, random: &mut Random, flush: &mut Flush) {
     match random.below(8) {
         0 => stripe.cut_note_and_old_log(),
         1 => {
-            stripe.cut_note_and_new_log(*first, bytes, *number);
-            *noted = true;
+            stripe.cut_note_and_new_log(flush.piece());
+            flush.noted = true;
         }
         2 | 3 => {
-            stripe.note(*first, bytes, *number).unwrap();
-            *noted = true;
+            stripe.note(flush.piece()).unwrap();
+            flush.noted = true;
         }
-        4 => stripe.cut_write(*first, bytes, *number, || random.draw() as u8),
+        4 => stripe.cut_write(flush.piece(), || random.draw() as u8),
         5 => stripe.cut(),
         _ => {
-            let written = stripe.write(*first, bytes, *number);
-            assert!(written.is_ok() || (!*noted && written == Err(Refusal::Smaller)));
+            let written = stripe.write(flush.piece());
+            assert!(written.is_ok() || (!flush.noted && written == Err(Refusal::Smaller)));
         }
     }
 }

@@ -137,12 +137,12 @@ fn each_byte_after_the_runs() {
 #[test]
 fn wrong_versions() {
     let note: [(&str, Calls); 4] = [
-        ("a note that does nothing", Calls { note: |_, _, _, _, _, _| 0, ..LIBRARY }),
+        ("a note that does nothing", Calls { note: |_, _, _, _| 0, ..LIBRARY }),
         (
             "a note that leaves the map",
             Calls {
-                note: |map, log, first, length, number, image_length| {
-                    (LIBRARY.note)(&mut map.to_vec(), log, first, length, number, image_length)
+                note: |map, log, piece, image_length| {
+                    (LIBRARY.note)(&mut map.to_vec(), log, piece, image_length)
                 },
                 ..LIBRARY
             },
@@ -150,8 +150,8 @@ fn wrong_versions() {
         (
             "a note that leaves the log",
             Calls {
-                note: |map, log, first, length, number, image_length| {
-                    (LIBRARY.note)(map, &mut log.to_vec(), first, length, number, image_length)
+                note: |map, log, piece, image_length| {
+                    (LIBRARY.note)(map, &mut log.to_vec(), piece, image_length)
                 },
                 ..LIBRARY
             },
@@ -159,8 +159,8 @@ fn wrong_versions() {
         (
             "a note that clears the byte after its entry",
             Calls {
-                note: |map, log, first, length, number, image_length| {
-                    let answer = (LIBRARY.note)(map, log, first, length, number, image_length);
+                note: |map, log, piece, image_length| {
+                    let answer = (LIBRARY.note)(map, log, piece, image_length);
                     log[run_at(log[3] as usize)] = 0;
                     answer
                 },
@@ -169,14 +169,15 @@ fn wrong_versions() {
         ),
     ];
     let write: [(&str, Calls); 3] = [
-        ("a write that does nothing", Calls { write: |_, _, _, _, _| 0, ..LIBRARY }),
+        ("a write that does nothing", Calls { write: |_, _, _| 0, ..LIBRARY }),
         (
             "a write by arrival",
             Calls {
-                write: |map, image, first, piece, number| {
-                    let answer = (LIBRARY.write)(map, image, first, piece, number);
+                write: |map, image, piece| {
+                    let answer = (LIBRARY.write)(map, image, piece);
                     if answer == 0 {
-                        image[first as usize..][..piece.len()].copy_from_slice(piece);
+                        image[piece.first as usize..][..piece.bytes.len()]
+                            .copy_from_slice(piece.bytes);
                     }
                     answer
                 },
@@ -186,9 +187,9 @@ fn wrong_versions() {
         (
             "a write that refuses an equal number",
             Calls {
-                write: |map, image, first, piece, number| {
+                write: |map, image, piece| {
                     let mut stored = image.to_vec();
-                    let answer = (LIBRARY.write)(map, &mut stored, first, piece, number);
+                    let answer = (LIBRARY.write)(map, &mut stored, piece);
                     if answer == 0 && stored != image {
                         return 18;
                     }
@@ -207,8 +208,8 @@ fn wrong_versions() {
         ..LIBRARY
     };
     let refused = Calls {
-        note: |map, log, first, length, number, image_length| {
-            let answer = (LIBRARY.note)(map, log, first, length, number, image_length);
+        note: |map, log, piece, image_length| {
+            let answer = (LIBRARY.note)(map, log, piece, image_length);
             let full = map[..4] == 1_024_u32.to_be_bytes();
             if full && answer == 0 {
                 16

@@ -1,6 +1,6 @@
 """Kills the example daemon with SIGKILL at random places, and checks what it leaves.
 
-    kills.py [--seed N] [--kills N] [--seconds N] [--inside | --waiting] [--only-the-end] DAEMON..
+    kills.py [--seed N] [--kills N] [--seconds N] [--inside] [--only-the-end] DAEMON..
     (DAEMON.. are the words that start the daemon)
 
 A run begins with an empty log and an image of its own. Clients note, write and flush pieces in any order and again; the
@@ -15,8 +15,8 @@ cut, is written until that is answered. Then each byte under a noted piece must 
 it began. --only-the-end leaves out the checks before.
 
 Kills come from outside, at any time. With --inside the daemon kills itself, as trap.c has it: inside of a call, or between
-two of its stores. Each kill is counted by the place that it found, as the files show it (PLACES). With --waiting a kill amid
-the bytes of a write is not asked for: where the daemon waits for a disk, most kills fall into its waits.
+two of its stores. Each kill is counted by the place that it found, as the files show it (PLACES). Amid the bytes of a write
+only --inside is sure to meet it; a kill from outside there is counted, and not asked for.
 
 Runs are played until there were so many kills, and one in each place. Where so many seconds are not enough for that, it has
 failed. What is wrong ends it with status 10.
@@ -240,13 +240,12 @@ def main():
     parser.add_argument("--kills", type=int, default=300)
     parser.add_argument("--seconds", type=float, default=60)
     parser.add_argument("--inside", action="store_true")
-    parser.add_argument("--waiting", action="store_true")
     parser.add_argument("--only-the-end", action="store_true")
     parser.add_argument("daemon", nargs=argparse.REMAINDER)
     options = parser.parse_args()
     print(f"kills: seed {options.seed}", file=sys.stderr)
     chance, seen, runs, begun = random.Random(options.seed), Counter(), 0, time.perf_counter()
-    needed = [place for place in PLACES if place != AMID_BYTES or not options.waiting]
+    needed = [place for place in PLACES if options.inside or place != AMID_BYTES]
 
     def missing():
         """What was asked for and has not come yet."""

@@ -1,29 +1,26 @@
 //! The picture of who owns which byte. The library plays the example; what is drawn is its map and
 //! its image.
 
-use gilboreth_host::{Log, Map, Number};
+use gilboreth_host::{Log, Map, Number, Piece};
 
 const IMAGE: &[u8; 10] = b"..........";
-const A: Piece = (0, b"AAAAAA", Number(2));
-const B: Piece = (4, b"BBBB", Number(1));
-const C: Piece = (5, b"CCC", Number(3));
+const A: Piece<&[u8]> = Piece { first: 0, bytes: b"AAAAAA", number: Number(2) };
+const B: Piece<&[u8]> = Piece { first: 4, bytes: b"BBBB", number: Number(1) };
+const C: Piece<&[u8]> = Piece { first: 5, bytes: b"CCC", number: Number(3) };
 /// The piece of P9, which is noted and not written.
-const D: Piece = (8, b"DD", Number(3));
-
-/// A piece: its first byte, its bytes and its number.
-type Piece = (u64, &'static [u8], Number);
+const D: Piece<&[u8]> = Piece { first: 8, bytes: b"DD", number: Number(3) };
 
 pub fn draw() -> String {
     let (mut map, mut log, mut image) = (Map::new(), Log::new(), *IMAGE);
-    let note = |map: &mut Map, log: &mut Log, (first, piece, number): Piece| {
-        let noted = map.note(log, first, piece.len() as u64, number, IMAGE.len() as u64);
+    let note = |map: &mut Map, log: &mut Log, piece: Piece<&[u8]>| {
+        let noted = map.note(log, piece.outline(), IMAGE.len() as u64);
         noted.expect("the example is accepted");
     };
     for piece in [A, B, C] {
         note(&mut map, &mut log, piece);
     }
-    for (first, piece, number) in [A, B, C] {
-        map.write(&mut image, first, piece, number).expect("the example is accepted");
+    for piece in [A, B, C] {
+        map.write(&mut image, piece).expect("the example is accepted");
     }
 
     let mut page = Page::default();
@@ -94,9 +91,10 @@ impl Page {
     }
 
     /// A piece, full where the map has its number.
-    fn piece(&mut self, (first, piece, number): Piece, map: &Map) {
-        self.label(&format!("{}, number {}", char::from(piece[0]), number.0));
-        for (byte, &letter) in (first..).zip(piece) {
+    fn piece(&mut self, piece: Piece<&[u8]>, map: &Map) {
+        let Piece { first, bytes, number } = piece;
+        self.label(&format!("{}, number {}", char::from(bytes[0]), number.0));
+        for (byte, &letter) in (first..).zip(bytes) {
             let class = if map.number_at(byte) == number { owned(number) } else { "lost" };
             self.cell(class, byte, byte, &char::from(letter).to_string());
         }

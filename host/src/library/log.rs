@@ -14,7 +14,7 @@ buffer! {
     /// count. A host that puts it down puts the entry down first, and then the count as one store:
     ///
     /// ```
-    /// use gilboreth_host::{Log, Map, Number};
+    /// use gilboreth_host::{Log, Map, Number, Piece};
     ///
     /// // What is on disk. A cut between two calls of `put` is harmless.
     /// let mut disk = Log::new();
@@ -23,7 +23,7 @@ buffer! {
     /// };
     ///
     /// let (mut map, mut log) = (Map::new(), Log::new());
-    /// map.note(&mut log, 4, 4, Number(2), 10)?;
+    /// map.note(&mut log, Piece { first: 4, bytes: 4, number: Number(2) }, 10)?;
     /// put(Log::entry(log.entries().len() - 1), &log);
     /// put(Log::COUNT, &log);
     /// assert!(disk == log);

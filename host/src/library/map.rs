@@ -3,6 +3,7 @@
 use super::buffer::array;
 use super::codes::Number;
 use super::log::Log;
+use super::piece::Piece;
 use super::refusal::{accepted, Refusal};
 use super::runs::{Run, Runs};
 use crate::entries;
@@ -18,17 +19,20 @@ buffer! {
     /// the greatest number. From document 01:
     ///
     /// ```
-    /// use gilboreth_host::{Log, Map, Number, Run};
+    /// use gilboreth_host::{Log, Map, Number, Piece, Run};
     ///
     /// let (mut map, mut log) = (Map::new(), Log::new());
     /// let mut image = *b"..........";
-    /// let pieces: [(u64, &[u8], Number); 3] =
-    ///     [(0, b"AAAAAA", Number(2)), (4, b"BBBB", Number(1)), (5, b"CCC", Number(3))];
-    /// for (first, piece, number) in pieces {
-    ///     map.note(&mut log, first, piece.len() as u64, number, 10)?;
+    /// let pieces: [Piece<&[u8]>; 3] = [
+    ///     Piece { first: 0, bytes: b"AAAAAA", number: Number(2) },
+    ///     Piece { first: 4, bytes: b"BBBB", number: Number(1) },
+    ///     Piece { first: 5, bytes: b"CCC", number: Number(3) },
+    /// ];
+    /// for piece in pieces {
+    ///     map.note(&mut log, piece.outline(), 10)?;
     /// }
-    /// for (first, piece, number) in pieces {
-    ///     map.write(&mut image, first, piece, number)?;
+    /// for piece in pieces {
+    ///     map.write(&mut image, piece)?;
     /// }
     /// assert_eq!(&image, b"AAAAACCC..");
     /// assert!(map.runs().eq([
@@ -46,27 +50,21 @@ impl Map {
     pub fn note(
         &mut self,
         log: &mut Log,
-        first: u64,
-        length: u64,
-        number: Number,
+        piece: Piece<u64>,
         image_length: u64,
     ) -> Result<(), Refusal> {
         let (map, log) = (self.bytes_mut(), log.bytes_mut());
-        accepted(entries::note(map, log, first, length, number.0, image_length))
+        let Piece { first, bytes, number } = piece;
+        accepted(entries::note(map, log, first, bytes, number.0, image_length))
     }
 
     /// Writes a piece: stores its byte in the image exactly where the map's number is the piece's.
     ///
     /// Where the map has a greater number the piece is too late, and stores nothing there. Where it
     /// has a smaller one the piece was never noted, and the whole write is refused with 18.
-    pub fn write(
-        &self,
-        image: &mut [u8],
-        first: u64,
-        piece: &[u8],
-        number: Number,
-    ) -> Result<(), Refusal> {
-        accepted(entries::write(self.bytes(), image, first, piece, number.0))
+    pub fn write(&self, image: &mut [u8], piece: Piece<&[u8]>) -> Result<(), Refusal> {
+        let Piece { first, bytes, number } = piece;
+        accepted(entries::write(self.bytes(), image, first, bytes, number.0))
     }
 
     /// Fills the map anew with the log's map, whatever it was.
@@ -74,10 +72,10 @@ impl Map {
     /// After any cut it comes first: neither a note nor a write before it was accepted.
     ///
     /// ```
-    /// use gilboreth_host::{Log, Map, Number};
+    /// use gilboreth_host::{Log, Map, Number, Piece};
     ///
     /// let (mut map, mut log) = (Map::new(), Log::new());
-    /// map.note(&mut log, 4, 4, Number(2), 10)?;
+    /// map.note(&mut log, Piece { first: 4, bytes: 4, number: Number(2) }, 10)?;
     /// let mut again = Map::new();
     /// again.restart(&log)?;
     /// assert!(again == map);

@@ -17,21 +17,35 @@ pub const fn run_at(place: usize) -> usize {
     4 + RUN_BYTES * place
 }
 
+/// A piece: its first byte, its bytes, or of a note how many they are, and its number.
+#[derive(Clone, Copy, Debug, PartialEq, Eq)]
+pub struct Piece<B> {
+    pub first: u64,
+    pub bytes: B,
+    pub number: u64,
+}
+
+impl<B> Piece<B> {
+    pub const fn new(first: u64, bytes: B, number: u64) -> Piece<B> {
+        Piece { first, bytes, number }
+    }
+}
+
+impl Piece<&[u8]> {
+    /// The piece as it is noted.
+    pub fn outline(&self) -> Piece<u64> {
+        Piece { first: self.first, bytes: self.bytes.len() as u64, number: self.number }
+    }
+}
+
 /// Appends the piece's entry to the log and raises the map's numbers to the piece's.
-pub fn note(
-    map: &mut [u8],
-    log: &mut [u8],
-    first: u64,
-    length: u64,
-    number: u64,
-    image_length: u64,
-) -> u64 {
-    answer(try_note(map, log, first, length, number, image_length))
+pub fn note(map: &mut [u8], log: &mut [u8], piece: Piece<u64>, image_length: u64) -> u64 {
+    answer(try_note(map, log, piece, image_length))
 }
 
 /// Stores the piece's bytes in the image where the map's number equals the piece's.
-pub fn write(map: &[u8], image: &mut [u8], first: u64, piece: &[u8], number: u64) -> u64 {
-    answer(try_write(map, image, first, piece, number))
+pub fn write(map: &[u8], image: &mut [u8], piece: Piece<&[u8]>) -> u64 {
+    answer(try_write(map, image, piece))
 }
 
 /// Fills the map buffer with the log's map.
@@ -46,14 +60,12 @@ fn answer(outcome: Result<(), Refusal>) -> u64 {
 fn try_note(
     map: &mut [u8],
     log: &mut [u8],
-    first: u64,
-    length: u64,
-    number: u64,
+    piece: Piece<u64>,
     image_length: u64,
 ) -> Result<(), Refusal> {
     let mut runs = decode_map(map).ok_or(refusal::MAP)?;
     let count = decode_log(log).ok_or(refusal::LOG)?.len();
-    let entry = piece_run(first, length, number, image_length)?;
+    let entry = piece_run(piece, image_length)?;
     runs.push(entry);
     let raised = map_of(&runs);
     refuse(refusal::RUNS, raised.len() > RUNS)?;
@@ -64,20 +76,14 @@ fn try_note(
     Ok(())
 }
 
-fn try_write(
-    map: &[u8],
-    image: &mut [u8],
-    first: u64,
-    piece: &[u8],
-    number: u64,
-) -> Result<(), Refusal> {
+fn try_write(map: &[u8], image: &mut [u8], piece: Piece<&[u8]>) -> Result<(), Refusal> {
     let runs = decode_map(map).ok_or(refusal::MAP)?;
-    piece_run(first, piece.len() as u64, number, image.len() as u64)?;
-    let numbers = numbers_over(&runs, first, piece.len());
-    refuse(refusal::SMALLER, numbers.iter().any(|&under| under < number))?;
-    for (at, &byte) in piece.iter().enumerate() {
-        if numbers[at] == number {
-            image[first as usize + at] = byte;
+    piece_run(piece.outline(), image.len() as u64)?;
+    let numbers = numbers_over(&runs, piece.first, piece.bytes.len());
+    refuse(refusal::SMALLER, numbers.iter().any(|&under| under < piece.number))?;
+    for (at, &byte) in piece.bytes.iter().enumerate() {
+        if numbers[at] == piece.number {
+            image[piece.first as usize + at] = byte;
         }
     }
     Ok(())
@@ -93,7 +99,8 @@ fn try_restart(map: &mut [u8], log: &[u8]) -> Result<(), Refusal> {
 }
 
 /// The piece's range with its number. A sum past 2^64 is past EOF like any other.
-fn piece_run(first: u64, length: u64, number: u64, image_length: u64) -> Result<Run, Refusal> {
+fn piece_run(piece: Piece<u64>, image_length: u64) -> Result<Run, Refusal> {
+    let Piece { first, bytes: length, number } = piece;
     let end = u128::from(first) + u128::from(length);
     let past = end > u128::from(image_length) || end > u128::from(EOF) + 1;
     refuse(refusal::PIECE, length == 0 || past)?;

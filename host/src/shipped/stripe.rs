@@ -4,23 +4,16 @@ use super::numbers::{partition, put_u32};
 use super::runs::{offset, sound_log, sound_map, Pen, Run};
 use crate::model::refusal::{self, refuse, Refusal};
 use crate::model::runs::{ENTRIES, RUNS};
-use crate::model::stripe::MAP_BYTES;
+use crate::model::stripe::{Piece, MAP_BYTES};
 use crate::model::{EOF, HIGHEST};
 use std::collections::BinaryHeap;
 
-pub fn note(
-    map: &mut [u8],
-    log: &mut [u8],
-    first: u64,
-    length: u64,
-    number: u64,
-    image_length: u64,
-) -> u64 {
-    try_note(map, log, first, length, number, image_length).err().unwrap_or(0)
+pub fn note(map: &mut [u8], log: &mut [u8], piece: Piece<u64>, image_length: u64) -> u64 {
+    try_note(map, log, piece, image_length).err().unwrap_or(0)
 }
 
-pub fn write(map: &[u8], image: &mut [u8], first: u64, piece: &[u8], number: u64) -> u64 {
-    try_write(map, image, first, piece, number).err().unwrap_or(0)
+pub fn write(map: &[u8], image: &mut [u8], piece: Piece<&[u8]>) -> u64 {
+    try_write(map, image, piece).err().unwrap_or(0)
 }
 
 pub fn restart(map: &mut [u8], log: &[u8]) -> u64 {
@@ -30,14 +23,12 @@ pub fn restart(map: &mut [u8], log: &[u8]) -> u64 {
 fn try_note(
     map: &mut [u8],
     log: &mut [u8],
-    first: u64,
-    length: u64,
-    number: u64,
+    piece: Piece<u64>,
     image_length: u64,
 ) -> Result<(), Refusal> {
     let runs = sound_map(map).ok_or(refusal::MAP)?;
     let entries = sound_log(log).ok_or(refusal::LOG)?;
-    let piece = piece_run(first, length, number, image_length)?;
+    let piece = piece_run(piece, image_length)?;
     // Only the runs that the piece meets or touches change: those from `from` up to `to`.
     let from = partition(runs, |place| Run::at(map, place).end < piece.first);
     let to = partition(runs, |place| Run::at(map, place).first <= piece.end);
@@ -72,15 +63,10 @@ fn raise(pen: &mut Pen, runs: impl Iterator<Item = Run>, piece: Run) {
     pen.lift();
 }
 
-fn try_write(
-    map: &[u8],
-    image: &mut [u8],
-    first: u64,
-    piece: &[u8],
-    number: u64,
-) -> Result<(), Refusal> {
+fn try_write(map: &[u8], image: &mut [u8], piece: Piece<&[u8]>) -> Result<(), Refusal> {
     let count = sound_map(map).ok_or(refusal::MAP)?;
-    let whole = piece_run(first, piece.len() as u64, number, image.len() as u64)?;
+    let whole = piece_run(piece.outline(), image.len() as u64)?;
+    let first = whole.first;
     let from = partition(count, |place| Run::at(map, place).end <= first);
     let to = partition(count, |place| Run::at(map, place).first < whole.end);
     let runs = || (from..to).map(|place| Run::at(map, place));
@@ -93,7 +79,7 @@ fn try_write(
     refuse(refusal::SMALLER, at < whole.end)?;
     for run in runs().filter(|run| run.number == whole.number) {
         let (from, to) = (run.first.max(first), run.end.min(whole.end));
-        let stretch = &piece[(from - first) as usize..(to - first) as usize];
+        let stretch = &piece.bytes[(from - first) as usize..(to - first) as usize];
         image[from as usize..to as usize].copy_from_slice(stretch);
     }
     Ok(())
@@ -139,7 +125,8 @@ fn sweep(pen: &mut Pen, entries: &[Run]) {
 }
 
 /// The piece's stretch with its number.
-fn piece_run(first: u64, length: u64, number: u64, image_length: u64) -> Result<Run, Refusal> {
+fn piece_run(piece: Piece<u64>, image_length: u64) -> Result<Run, Refusal> {
+    let Piece { first, bytes: length, number } = piece;
     let end = first.checked_add(length).filter(|&end| end <= image_length.min(EOF + 1));
     let end = end.filter(|_| length > 0).ok_or(refusal::PIECE)?;
     refuse(refusal::NUMBER, number == 0 || number > HIGHEST)?;

@@ -6,7 +6,7 @@
 use super::{apart, drawn};
 use gilboreth_host::beside::Beside;
 use gilboreth_host::model::runs::{Run, ENTRIES, RUNS};
-use gilboreth_host::model::stripe::{decode_log, decode_map, run_at, LOG_BYTES, MAP_BYTES};
+use gilboreth_host::model::stripe::{self, decode_log, decode_map, run_at, LOG_BYTES, MAP_BYTES};
 use gilboreth_host::random::{for_seeds, Random};
 use std::ops::{Range, RangeInclusive};
 
@@ -116,7 +116,8 @@ impl Stripe<'_> {
             let (length, image_length) = (last - first + 1, self.image.len() as u64);
             let mut new_log = self.log.clone();
             let (map, log) = (&mut self.map, &mut self.log);
-            let answered = self.beside.note(map, log, first, length, number, image_length);
+            let answered =
+                self.beside.note(map, log, stripe::Piece::new(first, length, number), image_length);
             assert_eq!(answered, expected);
             if answered == 0 {
                 let end = self.end_of_entries();
@@ -166,8 +167,11 @@ impl Stripe<'_> {
             self.image = new_image;
             self.restart();
         } else {
-            let answered =
-                self.beside.write(&self.map, &mut self.image, run.first, &bytes, run.number);
+            let answered = self.beside.write(
+                &self.map,
+                &mut self.image,
+                stripe::Piece::new(run.first, &bytes, run.number),
+            );
             assert_eq!(answered, if refused { 18 } else { 0 });
             assert!(self.image == new_image);
         }

@@ -3,7 +3,7 @@
 use super::{apart, drawn};
 use gilboreth_host::beside::Beside;
 use gilboreth_host::model::runs::{map_of, ENTRIES, RUNS};
-use gilboreth_host::model::stripe::{encode_log, encode_map, run_at, MAP_BYTES};
+use gilboreth_host::model::stripe::{encode_log, encode_map, run_at, Piece, MAP_BYTES};
 use gilboreth_host::random::{for_seeds, Random};
 use std::ops::Range;
 
@@ -23,9 +23,9 @@ pub fn flips(beside: &mut Beside, seeds: Range<u64>) {
             let (first, number) = (random.below(40), 1 + random.below(4));
             let length = 1 + random.below(40 - first);
             let piece = vec![0xEE; length as usize];
-            beside.write(&map, &mut [0; 40], first, &piece, number);
+            beside.write(&map, &mut [0; 40], Piece::new(first, &piece, number));
             beside.restart(&mut vec![0xEE; MAP_BYTES], &log);
-            beside.note(&mut map, &mut log, first, length, number, 40);
+            beside.note(&mut map, &mut log, Piece::new(first, length, number), 40);
         }
     });
 }
@@ -44,12 +44,12 @@ pub fn each_bit(beside: &mut Beside) {
     for bit in 0..8 * 150 {
         let (mut map, mut log) = (encode_map(&runs), encode_log(&entries));
         map[bit / 8] ^= 1 << (bit % 8);
-        beside.write(&map, &mut [0; 40], 3, b"piece", 3);
-        beside.note(&mut map, &mut log, 3, 5, 3, 40);
+        beside.write(&map, &mut [0; 40], Piece::new(3, b"piece", 3));
+        beside.note(&mut map, &mut log, Piece::new(3, 5, 3), 40);
         let (mut map, mut log) = (encode_map(&runs), encode_log(&entries));
         log[bit / 8] ^= 1 << (bit % 8);
         beside.restart(&mut vec![0xEE; MAP_BYTES], &log);
-        beside.note(&mut map, &mut log, 3, 5, 3, 40);
+        beside.note(&mut map, &mut log, Piece::new(3, 5, 3), 40);
     }
 }
 
@@ -60,8 +60,8 @@ pub fn each_byte_after(beside: &mut Beside) {
     let (mut map, mut log) = (encode_map(&runs), encode_log(&runs));
     for at in run_at(runs.len())..MAP_BYTES {
         map[at] = 1 << random.below(8);
-        assert_eq!(beside.note(&mut map, &mut log, 3, 5, 3, 40), 12, "byte {at}");
-        assert_eq!(beside.write(&map, &mut [0; 40], 3, b"piece", 3), 12, "byte {at}");
+        assert_eq!(beside.note(&mut map, &mut log, Piece::new(3, 5, 3), 40), 12, "byte {at}");
+        assert_eq!(beside.write(&map, &mut [0; 40], Piece::new(3, b"piece", 3)), 12, "byte {at}");
         map[at] = 0;
     }
 }
@@ -73,13 +73,13 @@ pub fn each_run(beside: &mut Beside) {
         (encode_map(&apart(RUNS as u64, 1)), encode_log(&apart(ENTRIES as u64, 1)));
     for number_at in (0..RUNS).map(last_byte) {
         map[number_at] = 0;
-        assert_eq!(beside.note(&mut map, &mut log, 0, 1, 1, 1), 12, "byte {number_at}");
-        assert_eq!(beside.write(&map, &mut [0], 0, b"A", 1), 12, "byte {number_at}");
+        assert_eq!(beside.note(&mut map, &mut log, Piece::new(0, 1, 1), 1), 12, "byte {number_at}");
+        assert_eq!(beside.write(&map, &mut [0], Piece::new(0, b"A", 1)), 12, "byte {number_at}");
         map[number_at] = 1;
     }
     for number_at in (0..ENTRIES).map(last_byte) {
         log[number_at] = 0;
-        assert_eq!(beside.note(&mut map, &mut log, 0, 1, 1, 1), 13, "byte {number_at}");
+        assert_eq!(beside.note(&mut map, &mut log, Piece::new(0, 1, 1), 1), 13, "byte {number_at}");
         assert_eq!(beside.restart(&mut map, &log), 13, "byte {number_at}");
         log[number_at] = 1;
     }

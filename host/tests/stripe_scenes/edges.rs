@@ -4,7 +4,7 @@
 use super::apart;
 use gilboreth_host::beside::Beside;
 use gilboreth_host::model::runs::Run;
-use gilboreth_host::model::stripe::{encode_log, encode_map, run_at, LOG_BYTES, MAP_BYTES};
+use gilboreth_host::model::stripe::{encode_log, encode_map, run_at, Piece, LOG_BYTES, MAP_BYTES};
 use gilboreth_host::model::{EOF, HIGHEST};
 
 const MOST: u64 = u64::MAX;
@@ -26,7 +26,7 @@ pub fn notes(beside: &mut Beside) {
         for (first, length) in choices(&FIRSTS, &LENGTHS) {
             for (number, image_length) in choices(&NUMBERS, &IMAGE_LENGTHS) {
                 let (mut map, mut log) = (encode_map(&list), encode_log(&list));
-                beside.note(&mut map, &mut log, first, length, number, image_length);
+                beside.note(&mut map, &mut log, Piece::new(first, length, number), image_length);
             }
         }
     }
@@ -37,7 +37,7 @@ pub fn writes(beside: &mut Beside) {
         for (first, number) in choices(&FIRSTS, &NUMBERS) {
             for (length, image_length) in choices(&[0, 1, 2, 9, 10, 11], &[0, 1, 9, 10, 11]) {
                 let mut image = vec![0; image_length];
-                beside.write(&map, &mut image, first, &vec![0xEE; length], number);
+                beside.write(&map, &mut image, Piece::new(first, &vec![0xEE; length], number));
             }
         }
     }
@@ -69,11 +69,11 @@ pub fn counts(beside: &mut Beside) {
 
 /// A note, a write and a restart on this map and this log; the note with a sound one beside, too.
 fn judged(beside: &mut Beside, map: &[u8], log: &[u8]) {
-    beside.write(map, &mut [0; 40], 10, b"piece", 5);
+    beside.write(map, &mut [0; 40], Piece::new(10, b"piece", 5));
     beside.restart(&mut vec![0xEE; MAP_BYTES], log);
-    beside.note(&mut map.to_vec(), &mut log.to_vec(), 10, 5, 6, 40);
-    beside.note(&mut map.to_vec(), &mut encode_log(&[]), 10, 5, 6, 40);
-    beside.note(&mut encode_map(&[]), &mut log.to_vec(), 10, 5, 6, 40);
+    beside.note(&mut map.to_vec(), &mut log.to_vec(), Piece::new(10, 5, 6), 40);
+    beside.note(&mut map.to_vec(), &mut encode_log(&[]), Piece::new(10, 5, 6), 40);
+    beside.note(&mut encode_map(&[]), &mut log.to_vec(), Piece::new(10, 5, 6), 40);
 }
 
 /// Maps and logs of every wrong length near the right one, each with the other right and wrong.
@@ -85,10 +85,10 @@ pub fn lengths(beside: &mut Beside) {
             let (mut map, mut log) = (encode_map(&list), encode_log(&list));
             map.resize(map_length, 0);
             log.resize(log_length, 0);
-            beside.write(&map, &mut [0; 10], 3, b"piece", 2);
-            beside.write(&map, &mut [0; 10], 3, b"", 0);
-            beside.note(&mut map.clone(), &mut log.clone(), 3, 0, 0, 10);
-            beside.note(&mut map, &mut log, 3, 5, 3, 10);
+            beside.write(&map, &mut [0; 10], Piece::new(3, b"piece", 2));
+            beside.write(&map, &mut [0; 10], Piece::new(3, b"", 0));
+            beside.note(&mut map.clone(), &mut log.clone(), Piece::new(3, 0, 0), 10);
+            beside.note(&mut map, &mut log, Piece::new(3, 5, 3), 10);
             beside.restart(&mut map, &log);
         }
     }

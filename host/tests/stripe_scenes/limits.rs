@@ -3,7 +3,7 @@
 use super::{apart, drawn};
 use gilboreth_host::beside::Beside;
 use gilboreth_host::model::runs::Run;
-use gilboreth_host::model::stripe::{encode_log, encode_map, MAP_BYTES};
+use gilboreth_host::model::stripe::{encode_log, encode_map, Piece, MAP_BYTES};
 use gilboreth_host::model::HIGHEST;
 use gilboreth_host::random::{for_seeds, Random};
 use std::ops::Range;
@@ -41,7 +41,8 @@ pub fn notes(beside: &mut Beside) {
                     (false, _) => 0,
                 };
                 let (mut map, mut log) = (map.clone(), log.clone());
-                let answered = beside.note(&mut map, &mut log, first, length, number, 10_000);
+                let answered =
+                    beside.note(&mut map, &mut log, Piece::new(first, length, number), 10_000);
                 assert_eq!(answered, expected, "{count} runs, {entries} entries, {first}");
             }
         }
@@ -61,9 +62,9 @@ pub fn drawn_notes(beside: &mut Beside, seeds: Range<u64>) {
             let first = (near.first + random.below(3)).saturating_sub(random.below(3));
             let length = if random.once_in(6) { end - first } else { 1 + random.below(9) };
             let number = 1 + random.below(5);
-            beside.note(&mut map, &mut log, first, length, number, end);
+            beside.note(&mut map, &mut log, Piece::new(first, length, number), end);
             let piece = vec![0xEE; length.min(end - first) as usize];
-            beside.write(&map, &mut vec![0; end as usize], first, &piece, number);
+            beside.write(&map, &mut vec![0; end as usize], Piece::new(first, &piece, number));
         }
     });
 }

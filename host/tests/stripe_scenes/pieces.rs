@@ -3,7 +3,7 @@
 use super::drawn;
 use gilboreth_host::beside::Beside;
 use gilboreth_host::model::runs::map_of;
-use gilboreth_host::model::stripe::{encode_log, encode_map, run_at};
+use gilboreth_host::model::stripe::{encode_log, encode_map, run_at, Piece};
 use gilboreth_host::random::{for_seeds, Random};
 use std::ops::Range;
 
@@ -42,11 +42,13 @@ fn play(beside: &mut Beside, random: &mut Random, image_length: u64, longest: u6
         }
         let number = random.below(8);
         match random.below(16) {
-            0..=7 => beside.note(&mut map, &mut log, first, length, number, image_length),
+            0..=7 => {
+                beside.note(&mut map, &mut log, Piece::new(first, length, number), image_length)
+            }
             8..=14 => {
                 let piece = &mut bytes[..length as usize];
                 random.fill(piece);
-                beside.write(&map, &mut image, first, piece, number)
+                beside.write(&map, &mut image, Piece::new(first, piece, number))
             }
             _ => beside.restart(&mut map, &log),
         };

@@ -1,6 +1,7 @@
 //! One call measured: the library beside the shipped Rust.
 
 use gilboreth_host::calls::{Calls, LIBRARY, SHIPPED};
+use gilboreth_host::model::stripe::Piece;
 use std::time::{Duration, Instant};
 
 pub const ROUNDS: usize = 25;
@@ -10,8 +11,8 @@ const ROUND: Duration = Duration::from_millis(10);
 /// A plain copy of the piece, as what a write can at best cost.
 const MEMCPY: Calls = Calls { write: copy, ..SHIPPED };
 
-fn copy(_: &[u8], image: &mut [u8], first: u64, piece: &[u8], _: u64) -> u64 {
-    image[first as usize..][..piece.len()].copy_from_slice(piece);
+fn copy(_: &[u8], image: &mut [u8], piece: Piece<&[u8]>) -> u64 {
+    image[piece.first as usize..][..piece.bytes.len()].copy_from_slice(piece.bytes);
     0
 }
 

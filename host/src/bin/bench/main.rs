@@ -6,7 +6,7 @@ use case::{clock, head, micros, Case, ROUNDS};
 use gilboreth_host::model::locks::{encode, EVENTS_BYTES};
 use gilboreth_host::model::modes::{Mode, State};
 use gilboreth_host::model::runs::Run;
-use gilboreth_host::model::stripe::{encode_log, encode_map, MAP_BYTES};
+use gilboreth_host::model::stripe::{encode_log, encode_map, Piece, MAP_BYTES};
 use gilboreth_host::model::table::{Record, Table};
 use gilboreth_host::model::EOF;
 use gilboreth_host::random::Random;
@@ -49,7 +49,7 @@ fn notes() {
         Case {
             name: format!("note at {count} runs"),
             buffers: [encode_map(&runs), encode_log(&runs)],
-            call: &|calls, map, log| (calls.note)(map, log, first, 6, 6, 10_000),
+            call: &|calls, map, log| (calls.note)(map, log, Piece::new(first, 6, 6), 10_000),
         }
         .row();
     }
@@ -72,7 +72,7 @@ fn writes() {
             Case {
                 name: format!("write of {name} over {count} run{half}"),
                 buffers: [encode_map(&runs), vec![0; length as usize + 200]],
-                call: &|calls, map, image| (calls.write)(map, image, 100, &piece, 5),
+                call: &|calls, map, image| (calls.write)(map, image, Piece::new(100, &piece, 5)),
             }
             .row_beside_memcpy(length, wanted);
         }
