@@ -55,13 +55,14 @@
 //!   stands above, so that an error would have to be made twice to pass.
 //! - [`shipped`] is the same calls as an engineer would ship them in plain Rust, the yardstick of the
 //!   benchmark. It takes its sizes and refusal numbers from the model.
-//! - [`calls`], [`beside`] and [`random`] are what tests and benchmark share: the calls as one
-//!   value, a call beside the model's, and seeds.
+//! - [`calls`], [`beside`], [`logs`] and [`random`] are what tests and benchmark share: the calls as
+//!   one value, a call beside the model's, logs of every kind, and seeds.
 
 pub mod beside;
 pub mod calls;
 pub mod entries;
 mod library;
+pub mod logs;
 pub mod model;
 pub mod random;
 pub mod shipped;

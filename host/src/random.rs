@@ -32,6 +32,13 @@ impl Random {
         from[self.below(from.len() as u64) as usize]
     }
 
+    /// Puts these in any order.
+    pub fn shuffle<T>(&mut self, items: &mut [T]) {
+        for place in 0..items.len() {
+            items.swap(place, self.below(place as u64 + 1) as usize);
+        }
+    }
+
     /// Fills the bytes with anything.
     pub fn fill(&mut self, bytes: &mut [u8]) {
         let mut parts = bytes.chunks_exact_mut(8);

@@ -32,7 +32,7 @@ fn locks() {
 
 #[test]
 fn stripe() {
-    use stripe_scenes::{cuts, damage, edges, limits, pieces};
+    use stripe_scenes::{cuts, damage, edges, limits, pieces, restarts};
     let mut shipped = Beside::new(SHIPPED);
     pieces::small(&mut shipped, 0..200);
     pieces::large(&mut shipped, 0..10);
@@ -43,6 +43,8 @@ fn stripe() {
     limits::drawn_notes(&mut shipped, 0..20);
     limits::restarts(&mut shipped, 0..1);
     limits::full_logs(&mut shipped, 0..2);
+    restarts::of_every_kind(&mut shipped);
+    restarts::crowded(&mut shipped, 0..400);
     edges::notes(&mut shipped);
     edges::writes(&mut shipped);
     edges::fields(&mut shipped);

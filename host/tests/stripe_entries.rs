@@ -5,7 +5,7 @@ mod stripe_scenes;
 use gilboreth_host::beside::{finds_out, Beside};
 use gilboreth_host::calls::{Calls, LIBRARY};
 use gilboreth_host::model::stripe::run_at;
-use stripe_scenes::{cuts, damage, edges, limits, pieces};
+use stripe_scenes::{cuts, damage, edges, limits, pieces, restarts};
 
 #[test]
 fn small_pieces() {
@@ -68,6 +68,20 @@ fn restarts_of_full_logs() {
     let mut library = Beside::new(LIBRARY);
     limits::full_logs(&mut library, 0..6);
     library.reached(48, &[0, 16]);
+}
+
+#[test]
+fn restarts_of_every_kind() {
+    let mut library = Beside::new(LIBRARY);
+    restarts::of_every_kind(&mut library);
+    library.reached(200, &[0]);
+}
+
+#[test]
+fn restarts_of_crowded_logs() {
+    let mut library = Beside::new(LIBRARY);
+    restarts::crowded(&mut library, 0..4_000);
+    library.reached(4_000, &[0]);
 }
 
 #[test]
@@ -224,6 +238,7 @@ fn wrong_versions() {
         assert!(finds_out(calls, |wrong| cuts::crowded(wrong, 0..20)), "{name}");
     }
     assert!(finds_out(restart, |wrong| pieces::small(wrong, 0..20)), "an empty map");
+    assert!(finds_out(restart, restarts::of_every_kind), "an empty map");
     assert!(finds_out(refused, limits::notes), "16 at 1,024 runs");
     assert!(!finds_out(LIBRARY, |right| pieces::small(right, 0..20)));
 }

@@ -1,14 +1,19 @@
--- The runs of a map that a piece leaves as they are. What the functions that raise a map promise each other; no public contract cites this file.
-use Prim.Native.Nat.{ℕ, suc, _+_, _-_, _≤_, _<_}
+-- A map raised by a piece: the ages under it, and the runs that it leaves as they are. What the functions that raise a map promise each other; no public contract cites this file.
+use Prim.Native.Nat.{ℕ, suc, _+_, _-_, _≤_, _<_, max}
 use mathlib.Core.Bool.{cond}
 use mathlib.Core.List.{List, [], _∷_}
 use lib.Dec.{eqb}
 use Rattle.common.specs.Ranges.{eof}
 use Rattle.xdr.specs.Be.{be}
 use Rattle.runs.specs.declared.Run.{Run}
+use Rattle.runs.specs.Owner.{over}
 use Rattle.runbytes.specs.Places.{runAt}
 use Rattle.pen.specs.declared.Pen.{Pen}
 use Rattle.pen.specs.Drawing.{fresh}
+
+-- the age m under a piece
+abbrev pub under : Run → ℕ → ℕ → ℕ
+under r m b = max (over r b) m
 
 -- from the place `from` on, the runs up to before place k start at or before the byte x, and the run at place k after it
 pub record Begun (s : List ℕ) (from x k : ℕ) : Type 0 where

@@ -1,5 +1,4 @@
-// Draws the map of a map and a piece, and the map of a log.
-use common::Number;
+// Draws the map of a map and a piece.
 use pen::Pen;
 use runs::Age;
 use runs::Run;
@@ -13,12 +12,11 @@ ghost use Rattle.common.specs.Ranges.{eof};
 ghost use Rattle.xdr.specs.Be.{be};
 ghost use Rattle.runs.specs.Ages.{valueOf, Exact};
 ghost use Rattle.runs.specs.Owner.{owner};
-ghost use Rattle.runs.specs.Map.{raise, mapOf};
-ghost use Rattle.runs.specs.Bytes.{mapSize, runsOf, soundMapBytes, soundLogBytes};
+ghost use Rattle.runs.specs.Map.{raise};
+ghost use Rattle.runs.specs.Bytes.{mapSize, runsOf, soundMapBytes};
 ghost use Rattle.runs.specs.Valid.{Valid};
 ghost use Rattle.pen.specs.Drawing.{Fine, withRuns, Added, Went, Stored};
-ghost use Rattle.maps.specs.Beside.{Begun, Ended, penAt, startOf};
-ghost use Rattle.maps.specs.Reach.{under, Covers, Reach, Opened, Seen};
+ghost use Rattle.maps.specs.Beside.{under, Begun, Ended, penAt, startOf};
 
 // Draws the age m up to before q, across the piece: before it, inside it at the greater age, and after it.
 fn cross(out: &mut [u8], p: Pen, q: u64, m: Age, piece: Run) -> Pen
@@ -148,105 +146,4 @@ pub fn raised(out: &mut [u8], map: &[u8], piece: Run) -> usize
     p = span(out, p, start_at(map, to), runs::none(), piece);
     let k = pen::flush(out, p);
     rest(out, k, map, to)
-}
-
-// From a byte on, the age is at least `age` before `end`, and at most `age` before `stop`.
-struct View {
-    age: u64,
-    end: u64,
-    stop: u64,
-}
-
-// Opens a view from the byte x: the age goes on where the last view reaches past x, and nothing stops it yet.
-fn opened(x: u64, v: View) -> View
-    requires { ⌜ x ≤ eof ⌝ }
-    ensures { λ w. ⌜ Opened x v w ⌝ }
-{
-    if v.end <= x {
-        return View {
-            age: 0,
-            end: common::EOF + 1,
-            stop: common::EOF + 1,
-        };
-    }
-    View {
-        age: v.age,
-        end: v.end,
-        stop: common::EOF + 1,
-    }
-}
-
-// Sees one entry more from the byte x: it covers x, goes on where the age would end, or stops it.
-fn seen(x: u64, r: Run, v: View) -> View
-    requires { ⌜ Valid r ⌝ }
-    ensures { λ w. ⌜ Seen x r v w ⌝ }
-{
-    if r.age.number.0 < v.age {
-        return v;
-    }
-    if r.age.number.0 == v.age {
-        if (r.first <= v.end) & (v.end <= r.last) {
-            return View {
-                age: v.age,
-                end: r.last + 1,
-                stop: v.stop,
-            };
-        }
-        return v;
-    }
-    if x < r.first {
-        return View {
-            age: v.age,
-            end: v.end,
-            stop: common::lesser(v.stop, r.first),
-        };
-    }
-    if x <= r.last {
-        return View {
-            age: r.age.number.0,
-            end: r.last + 1,
-            stop: v.stop,
-        };
-    }
-    v
-}
-
-// Looks from the byte x over every entry of a sound log, after the last view.
-fn look(log: &[u8], x: u64, last: View) -> View
-    requires { ⌜ (soundLogBytes (now log) ≡ true) × (x ≤ eof) × Covers (owner (runsOf width (now log))) x last ⌝ }
-    ensures { λ v. ⌜ Reach (owner (runsOf width (now (log .entry)))) (owner (runsOf width (now (log .entry)))) x v ⌝ }
-{
-    let n = runbytes::count(log);
-    let mut v = opened(x, last);
-    let mut i: usize = 0;
-    while i < n {
-        v = seen(x, runbytes::run_at(log, i), v);
-        i += 1;
-    }
-    v
-}
-
-// Draws the map of a sound log, and counts its runs.
-pub fn rebuilt(out: &mut [u8], log: &[u8]) -> usize
-    requires { ⌜ (length (now out) ≡ mapSize width) × (soundLogBytes (now log) ≡ true) ⌝ }
-    ensures { λ k. ⌜ Stored (mapOf (runsOf width (now (log .entry)))) (now (out .entry)) (now (out .exit)) k ⌝ }
-{
-    let mut p = pen::start();
-    let mut v = View {
-        age: 0,
-        end: 0,
-        stop: 0,
-    };
-    while p.x <= common::EOF {
-        v = look(log, p.x, v);
-        p = pen::push(
-            out,
-            p,
-            common::lesser(v.end, v.stop),
-            Age {
-                number: Number(v.age),
-            },
-        );
-    }
-    pen::flush(out, p)
 }

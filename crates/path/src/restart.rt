@@ -14,7 +14,7 @@ pub fn restart(map: &mut [u8], log: &[u8]) -> u64
         return 13;
     }
     let mut scratch = [0u8; runbytes::MAP_SIZE];
-    let rebuilt = maps::rebuilt(&mut scratch, log);
+    let rebuilt = rebuild::rebuilt(&mut scratch, log);
     if runbytes::MAX_RUNS < rebuilt {
         return 16;
     }

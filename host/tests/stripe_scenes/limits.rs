@@ -88,7 +88,7 @@ fn crowd(random: &mut Random, count: usize) -> Vec<Run> {
 pub fn restarts(beside: &mut Beside, seeds: Range<u64>) {
     for_seeds(seeds, |random| {
         let mut entries = apart(1_300, 1 + random.below(3));
-        shuffle(random, &mut entries);
+        random.shuffle(&mut entries);
         for needed in [1_023, 1_024, 1_025, 1_026] {
             let last = 2 * (1_300 - needed);
             let over = Run { first: 0, last, number: 3 + random.below(3) };
@@ -101,12 +101,6 @@ pub fn restarts(beside: &mut Beside, seeds: Range<u64>) {
             }
         }
     });
-}
-
-fn shuffle(random: &mut Random, entries: &mut [Run]) {
-    for place in 0..entries.len() {
-        entries.swap(place, random.below(place as u64 + 1) as usize);
-    }
 }
 
 /// Logs of 2,046 to 2,048 entries: apart, nested, touching in rising and falling order, and drawn.

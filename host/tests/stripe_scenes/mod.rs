@@ -5,6 +5,7 @@ pub mod damage;
 pub mod edges;
 pub mod limits;
 pub mod pieces;
+pub mod restarts;
 
 use gilboreth_host::model::runs::Run;
 use gilboreth_host::random::Random;

@@ -67,11 +67,12 @@ impl Case<'_> {
         self.print([library, shipped], library <= 2 * shipped, ["", "", ""].map(String::from));
     }
 
-    /// The same where at most so long is wanted.
+    /// The same where at most so long, and at most 3 times the Rust, is wanted.
     pub fn row_within(&self, wanted: Duration) {
         self.begin();
         let [library, shipped] = self.medians([LIBRARY, SHIPPED]);
-        self.print([library, shipped], library <= wanted, ["", "", ""].map(String::from));
+        let as_wanted = library <= wanted && library <= 3 * shipped;
+        self.print([library, shipped], as_wanted, ["", "", ""].map(String::from));
     }
 
     /// The same for a write of so many bytes, with memcpy beside. Wanted is at most 2 times the Rust,

@@ -1,19 +1,33 @@
 //! What the calls cost: the library beside the shipped Rust, on the same inputs in one run.
 
 mod case;
+mod search;
 
 use case::{clock, head, micros, Case, ROUNDS};
+use gilboreth_host::logs::kinds;
 use gilboreth_host::model::locks::{encode, EVENTS_BYTES};
 use gilboreth_host::model::modes::{Mode, State};
-use gilboreth_host::model::runs::Run;
+use gilboreth_host::model::runs::{Run, ENTRIES};
 use gilboreth_host::model::stripe::{encode_log, encode_map, Piece, MAP_BYTES};
 use gilboreth_host::model::table::{Record, Table};
 use gilboreth_host::model::EOF;
-use gilboreth_host::random::Random;
 use std::time::Duration;
 
-/// Progress goes to stderr, the table to stdout.
+/// Progress goes to stderr, the table to stdout. With `search SECONDS` it looks for the worst restart.
 fn main() {
+    let words: Vec<String> = std::env::args().skip(1).collect();
+    let seconds = words.get(1).and_then(|seconds| seconds.parse().ok());
+    match (words.first().map(String::as_str), seconds) {
+        (None, _) => measure(),
+        (Some("search"), Some(seconds)) => search::search(Duration::from_secs(seconds)),
+        _ => {
+            eprintln!("usage: bench [search SECONDS]");
+            std::process::exit(2);
+        }
+    }
+}
+
+fn measure() {
     println!("Microseconds a call. {} A * marks what misses its bound.", measured());
     println!();
     head();
@@ -79,28 +93,15 @@ fn writes() {
     }
 }
 
-/// Logs of 2,048 entries. The disjoint ones touch two by two and have one number.
+/// Full logs of every kind.
 fn restarts() {
-    let mut random = Random::new(0);
-    let run = |first, length, number| Run { first, last: first + length - 1, number };
-    let disjoint = |place: u64| run(10 * (place / 2) + 4 * (place % 2), 4, 1);
-    let nested = |place: u64| run(place, 10_000 - 2 * place, 1 + place / 4);
-    let drawn =
-        |_| run(random.below(1 << 20), 1 + random.below(1 << 14), 1 + random.below(1 << 16));
-    let touching = |place: u64| run(3 * place, 3, 1);
-    let logs: [(&str, Vec<Run>); 4] = [
-        ("disjoint entries, 1,024 runs", (0..2_048).map(disjoint).collect()),
-        ("nested entries", (0..2_048).map(nested).collect()),
-        ("entries drawn at random", (0..2_048).map(drawn).collect()),
-        ("a chain of one number, falling", (0..2_048).rev().map(touching).collect()),
-    ];
-    for (name, entries) in logs {
+    for (name, entries) in kinds(ENTRIES as u64) {
         Case {
             name: format!("restart, {name}"),
             buffers: [vec![0; MAP_BYTES], encode_log(&entries)],
             call: &|calls, map, log| (calls.restart)(map, log),
         }
-        .row_within(Duration::from_millis(20));
+        .row_within(Duration::from_micros(500));
     }
 }
 

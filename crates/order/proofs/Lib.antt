@@ -1,0 +1,4 @@
+pub mod Putting
+pub mod Merging
+pub mod Inserting
+pub mod Halves

@@ -1,0 +1,134 @@
+//! Looks for logs that cost a restart much. Each begins as a shape that is drawn, and is changed part
+//! by part as long as it costs more. By hand: `tools/bench search SECONDS`.
+
+use crate::case::micros;
+use gilboreth_host::calls::{Calls, LIBRARY, SHIPPED};
+use gilboreth_host::model::runs::{Run, ENTRIES};
+use gilboreth_host::model::stripe::{encode_log, MAP_BYTES};
+use gilboreth_host::random::Random;
+use std::time::{Duration, Instant};
+
+/// What no restart may take.
+const WANTED: Duration = Duration::from_millis(1);
+/// So many changes in a row that gain nothing end a climb.
+const IDLE: usize = 60;
+
+/// Looks for so long, and prints the worst log of each shape that was the worst until then.
+pub fn search(limit: Duration) {
+    let end = Instant::now() + limit;
+    let mut random = Random::new(0);
+    let (mut logs, mut worst) = (0_u64, Duration::ZERO);
+    let mut found = Vec::new();
+    while Instant::now() < end {
+        let (shape, mut entries) = draw(&mut random);
+        let mut cost = least(LIBRARY, &entries, 7);
+        let mut idle = 0;
+        while idle < IDLE && Instant::now() < end {
+            let mut changed = entries.clone();
+            change(&mut random, &mut changed);
+            let changed_cost = least(LIBRARY, &changed, 7);
+            logs += 1;
+            idle += 1;
+            if changed_cost > cost {
+                (entries, cost, idle) = (changed, changed_cost, 0);
+            }
+        }
+        // Once more, so that no other program's time counts as the log's.
+        cost = least(LIBRARY, &entries, 101);
+        if cost > worst {
+            worst = cost;
+            eprintln!("{:.0} µs: {shape}", micros(cost));
+            found = entries;
+        }
+    }
+    let [library, shipped] = [LIBRARY, SHIPPED].map(|side| least(side, &found, 1_001));
+    let mark = if library <= WANTED { ' ' } else { '*' };
+    let (library, shipped) = (micros(library), micros(shipped));
+    println!(
+        "{logs} logs tried; the worst takes {library:.0} µs {mark} (the Rust: {shipped:.0} µs)"
+    );
+}
+
+/// The least time of so many restarts. Some logs are refused with 16, after the same work.
+fn least(side: Calls, entries: &[Run], times: usize) -> Duration {
+    let log = encode_log(entries);
+    let mut map = vec![0; MAP_BYTES];
+    let mut once = || {
+        let start = Instant::now();
+        let answered = (side.restart)(&mut map, &log);
+        let time = start.elapsed();
+        assert!(answered == 0 || answered == 16, "{answered}");
+        time
+    };
+    (0..times).map(|_| once()).min().unwrap()
+}
+
+/// A full log: first bytes, lengths and numbers each by one of a few rules, in one of a few orders.
+fn draw(random: &mut Random) -> (String, Vec<Run>) {
+    let count = ENTRIES as u64;
+    let firsts = random.pick(&["apart", "touching", "equal", "anywhere", "in streams"]);
+    let lengths = random.pick(&["short", "long", "nested", "any length"]);
+    let numbers = random.pick(&["one number", "rising", "falling", "scrambled", "any number"]);
+    let order = random.pick(&["as it is", "reversed", "shuffled", "in blocks"]);
+    let streams = 1 + random.below(64);
+    let mut entry = |place: u64| {
+        let first = match firsts {
+            "apart" => 20 * place,
+            "touching" => 10 * place,
+            "equal" => 0,
+            "anywhere" => random.below(1 << 20),
+            _ => place % streams * 100_000 + 10 * (place / streams),
+        };
+        let length = match lengths {
+            "short" => 10,
+            "long" => 1 << 24,
+            "nested" => (1 << 24) - 2 * first,
+            _ => 1 + random.below(1 << 20),
+        };
+        let number = match numbers {
+            "one number" => 1,
+            "rising" => 1 + place,
+            "falling" => count - place,
+            "scrambled" => 1 + place * 997 % count,
+            _ => 1 + random.below(count),
+        };
+        Run { first, last: first + length - 1, number }
+    };
+    let mut entries: Vec<Run> = (0..count).map(&mut entry).collect();
+    match order {
+        "reversed" => entries.reverse(),
+        "shuffled" => random.shuffle(&mut entries),
+        "in blocks" => entries.chunks_mut(streams as usize).for_each(<[Run]>::reverse),
+        _ => {}
+    }
+    (format!("{firsts}, {lengths}, {numbers}, {order}"), entries)
+}
+
+/// Changes some of the log's entries, or their order.
+fn change(random: &mut Random, entries: &mut [Run]) {
+    let count = entries.len() as u64;
+    let from = random.below(count);
+    let length = match random.below(3) {
+        0 => 2 + random.below(8),
+        1 => 2 + random.below(256),
+        _ => count,
+    };
+    let to = (from + length).min(count);
+    let near = entries[random.below(count) as usize];
+    let part = &mut entries[from as usize..to as usize];
+    match random.below(8) {
+        0 => random.shuffle(part),
+        1 => part.reverse(),
+        2 => part.sort_by_key(|entry| entry.first),
+        3 => part.sort_by_key(|entry| entry.number),
+        4 => part.iter_mut().for_each(|entry| entry.number = 1 + random.below(count)),
+        5 => part.iter_mut().for_each(|entry| entry.last = entry.first + random.below(1 << 20)),
+        6 => part.iter_mut().for_each(|entry| {
+            (entry.last, entry.first) = (near.first + (entry.last - entry.first), near.first)
+        }),
+        _ => part.iter_mut().for_each(|entry| {
+            let first = random.below(1 << 20);
+            (entry.last, entry.first) = (first + (entry.last - entry.first), first)
+        }),
+    }
+}

@@ -1,0 +1,58 @@
+//! Logs of the kinds that a restart may meet, for the tests and the benchmark.
+
+use crate::model::runs::Run;
+use crate::random::Random;
+
+/// Logs of so many entries, at most 2,048, by name. None needs more than 1,024 runs.
+pub fn kinds(count: u64) -> Vec<(&'static str, Vec<Run>)> {
+    let mut random = Random::new(0);
+    let run = |first, length, number| Run { first, last: first + length - 1, number };
+    let (rising, falling) = (|place| 1 + place / 4, |place| 1 + (count - 1 - place) / 4);
+    let nested = |place, number| run(place, 10_000 - 2 * place, number);
+
+    let disjoint = |place| run(10 * (place / 2) + 4 * (place % 2), 4, 1);
+    let chain = |place| run(3 * place, 3, 1);
+    let single = |place| run(place, 1, 1 + place / 2);
+    let in_rising = |place| nested(place, rising(place));
+    let in_falling = |place| nested(place, falling(place));
+    let out_rising = |place| nested(count - 1 - place, rising(place));
+    let out_falling = |place| nested(count - 1 - place, falling(place));
+    let from_0_rising = |place| run(0, 1 + place, rising(place));
+    let from_0_falling = |place| run(0, 1 + place, falling(place));
+    let long_rising = |place| run(place, 10_000, rising(place));
+    let long_falling = |place| run(place, 10_000, falling(place));
+
+    let all = |entry: &dyn Fn(u64) -> Run| -> Vec<Run> { (0..count).map(entry).collect() };
+    let back = |entry: &dyn Fn(u64) -> Run| -> Vec<Run> { (0..count).rev().map(entry).collect() };
+    let mut shuffled = |entry: &dyn Fn(u64) -> Run| {
+        let mut entries = all(entry);
+        random.shuffle(&mut entries);
+        entries
+    };
+    let mut logs = vec![
+        ("disjoint, rising", all(&disjoint)),
+        ("disjoint, falling", back(&disjoint)),
+        ("disjoint, shuffled", shuffled(&disjoint)),
+        ("nested inwards, rising numbers", all(&in_rising)),
+        ("nested inwards, falling numbers", all(&in_falling)),
+        ("nested outwards, rising numbers", all(&out_rising)),
+        ("nested outwards, falling numbers", all(&out_falling)),
+        ("all from byte 0, rising numbers", all(&from_0_rising)),
+        ("all from byte 0, falling numbers", all(&from_0_falling)),
+        ("long overlaps, rising numbers", all(&long_rising)),
+        ("long overlaps, falling numbers", all(&long_falling)),
+        ("long overlaps, shuffled", shuffled(&long_falling)),
+        ("a chain of one number, rising", all(&chain)),
+        ("a chain of one number, falling", back(&chain)),
+        ("a chain of one number, shuffled", shuffled(&chain)),
+        ("single bytes, rising", all(&single)),
+        ("single bytes, falling", back(&single)),
+        ("single bytes, shuffled", shuffled(&single)),
+    ];
+    for (name, longest) in [("drawn at random", 1 << 14), ("drawn at random, long", 1 << 40)] {
+        let mut drawn =
+            |_| run(random.below(1 << 20), 1 + random.below(longest), 1 + random.below(1 << 16));
+        logs.push((name, (0..count).map(&mut drawn).collect()));
+    }
+    logs
+}
