@@ -38,7 +38,7 @@ use Rattle.promises.specs.Demand2.{Called, Goes, Followed, Demand2}
 use Rattle.promises.proofs.Determined.{of-message}
 use Rattle.promises.proofs.Reached.{buffer, buffer-long}
 use Rattle.promises.proofs.Outcomes.{served-hit}
-use Rattle.promises.proofs.Sessions.{Follows, outcome-is, bytes-sound, follows, session-follows, session-events}
+use Rattle.promises.proofs.Sessions.{Follows, outcome-is, follows, session-follows, session-events}
 use Rattle.promises.proofs.Settled.{serve-reasoned}
 
 -- no handle twice, so no record twice

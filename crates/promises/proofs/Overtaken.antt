@@ -18,6 +18,7 @@ use Rattle.table.specs.Table.{Table, handleOf, nth, waits, held, blank}
 use Rattle.table.specs.Sound.{valid, agree, sound}
 use Rattle.table.specs.Bytes.{tableOf}
 use Rattle.table.proofs.Facts.{Sound, sound→, valid→}
+use Rattle.table.proofs.Zeros.{bytes-sound}
 use Rattle.locks.specs.declared.Message.{Message}
 use Rattle.locks.specs.declared.Message.the-variants.{Request, Acknowledge, Downgrade, Release}
 use Rattle.locks.specs.Conflicts.{conflicts, obstacle}
@@ -35,7 +36,7 @@ use Rattle.promises.specs.Among.{Among}
 use Rattle.promises.specs.Reasoned.{turned, atTurn, Asks}
 use Rattle.promises.specs.Overtaken.{NoneOvertaken}
 use Rattle.promises.proofs.Members.{in-all, in-split, in-keep, in-map, any-in, in-pairs, pairs-both, in-place, place-in}
-use Rattle.promises.proofs.Sessions.{outcome-is, bytes-sound}
+use Rattle.promises.proofs.Sessions.{outcome-is}
 use Rattle.promises.proofs.Settled.{good, is-accepted, serve-reasoned}
 use Rattle.promises.proofs.Demand2.{demand2}
 
