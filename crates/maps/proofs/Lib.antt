@@ -1,2 +1,2 @@
 pub mod Raising
-pub mod Beside
+pub mod Untouched

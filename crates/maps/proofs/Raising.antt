@@ -19,7 +19,7 @@ use Rattle.runs.specs.Valid.{Valid}
 use Rattle.runs.proofs.Sound.{sound-canon}
 use Rattle.pen.specs.declared.Pen.{Pen}
 use Rattle.pen.specs.Drawing.{Drawn, Went, one}
-use Rattle.maps.specs.Beside.{under}
+use Rattle.maps.specs.Untouched.{under}
 
 -- two steps to the right
 further : (x x1 x2 q1 q2 : ℕ) → x1 ≡ max x q1 → x2 ≡ max x1 q2 → q1 ≤ q2 → x2 ≡ max x q2

@@ -16,7 +16,7 @@ ghost use Rattle.runs.specs.Map.{raise};
 ghost use Rattle.runs.specs.Bytes.{mapSize, runsOf, soundMapBytes};
 ghost use Rattle.runs.specs.Valid.{Valid};
 ghost use Rattle.pen.specs.Drawing.{Fine, withRuns, Added, Went, Stored};
-ghost use Rattle.maps.specs.Beside.{under, Begun, Ended, penAt, startOf};
+ghost use Rattle.maps.specs.Untouched.{under, Begun, Ended, penAt, startOf};
 
 // Draws the age m up to before q, across the piece: before it, inside it at the greater age, and after it.
 fn cross(out: &mut [u8], p: Pen, q: u64, m: Age, piece: Run) -> Pen

@@ -1,7 +1,7 @@
 -- `ended`: a run ends before the next starts.
 use borrow.Author.Needs.{needs}
 use denote.Ref.{now}
-use Rattle.maps.proofs.Beside.{begun-ended}
+use Rattle.maps.proofs.Untouched.{begun-ended}
 use Rattle.maps.proofs.ended.Statement.{statement}
 use Rattle.maps.proofs.ended.Tie as tie
 

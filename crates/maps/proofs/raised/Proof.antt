@@ -17,7 +17,7 @@ use Rattle.pen.proofs.Steps.{few}
 use Rattle.runbytes.proofs.Places.{runs-from}
 use Rattle.runbytes.proofs.Facts.{MapFacts, map-facts, valid-at}
 use Rattle.maps.proofs.Raising.{Left, raise-more}
-use Rattle.maps.proofs.Beside.{Skipped, skipped, after-at, raise-done}
+use Rattle.maps.proofs.Untouched.{Skipped, skipped, after-at, raise-done}
 use Rattle.maps.proofs.raised.Statement.{statement}
 use Rattle.maps.proofs.raised.Tie as tie
 

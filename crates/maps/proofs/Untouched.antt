@@ -34,7 +34,7 @@ use Rattle.runbytes.proofs.Facts.{map-facts, valid-at}
 use Rattle.pen.specs.declared.Pen.{Pen}
 use Rattle.pen.specs.Drawing.{Fine, withRuns, Drawn, Added, Flushed, Went, Stored}
 use Rattle.pen.proofs.Steps.{fresh-fine, drawn-fresh, stored-added, flushed}
-use Rattle.maps.specs.Beside.{under, Begun, Ended, penAt, startOf}
+use Rattle.maps.specs.Untouched.{under, Begun, Ended, penAt, startOf}
 use Rattle.maps.proofs.Raising.{Left, left-all, left-in, left-next, left-turns}
 
 draw-same : (g h : ℕ → ℕ) (b n : ℕ) → ((x : ℕ) → b ≤ x → x < b + n → g x ≡ h x) → draw g b n ≡ draw h b n
