@@ -74,14 +74,14 @@ fn restarts_of_full_logs() {
 fn restarts_of_every_kind() {
     let mut library = Beside::new(LIBRARY);
     restarts::of_every_kind(&mut library);
-    library.reached(200, &[0]);
+    library.reached(140, &[0]);
 }
 
 #[test]
 fn restarts_of_crowded_logs() {
     let mut library = Beside::new(LIBRARY);
-    restarts::crowded(&mut library, 0..4_000);
-    library.reached(4_000, &[0]);
+    restarts::crowded(&mut library, 0..2_000);
+    library.reached(2_000, &[0]);
 }
 
 #[test]
