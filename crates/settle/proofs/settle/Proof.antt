@@ -4,5 +4,14 @@ use borrow.Author.Needs.{needs}
 use Rattle.settle.proofs.settle.Statement.{statement}
 use Rattle.settle.proofs.settle.Tie as tie
 
+returns : tie.Need-returns
+returns c = settle-done _ _ _ _ _ _ _ (c .before .before .before .before .before .before .before .before .before .before .before .before .before .before .before .before .pre .0) (c .before .before .before .before .before .before .before .before .before .before .before .grants .ensures) _ _ _ (c .before .before .before .before .revocations .ensures)
+
+revocations-requires : tie.Need-revocations-requires
+revocations-requires c κs =
+    let s = c .before .before .before .before .before .before .before .before .before .before .before in
+    let D = c .before .before .before .before .before .before .grants .ensures in
+    (settle-moded _ _ _ _ _ _ _ (s .pre .0) D, settle-room _ _ _ _ _ _ _ (s .pre .0) D (s .pre .1))
+
 pub settle-spec : {M : Type 1} → statement M
-settle-spec = tie.close (tie.spec (λ c κs. search needs) (λ c κs. search (settle-moded, settle-room)) (λ c. search needs) (λ c. search needs) (λ c. search settle-done))
+settle-spec = tie.close (tie.spec (λ c κs. search needs) revocations-requires (λ c. search needs) (λ c. search needs) returns)
