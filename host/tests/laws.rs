@@ -12,6 +12,7 @@ use gilboreth_host::model::table::{Record, Table, STRIPES};
 use gilboreth_host::model::EOF;
 use gilboreth_host::random::for_seeds;
 use messages::message;
+use std::thread::scope;
 
 /// One table as values, and as bytes that the library serves beside the model, and what the session has seen of it.
 struct Session {
@@ -159,14 +160,20 @@ impl Session {
 /// The sessions differ in how fast their tables fill; the fullest meet the limit of 256 records.
 #[test]
 fn sessions() {
-    for (requests, calls) in [(3, 300), (4, 300), (6, 300), (9, 320)] {
-        for_seeds(0..12, |random| {
-            let mut session = Session::new();
-            for _ in 0..calls {
-                let message = message(&session.table, random, requests);
-                session.serve(message);
-            }
-            assert!(session.seen.iter().all(|&times| times > 0), "{:?}", session.seen);
-        });
-    }
+    scope(|threads| {
+        for (requests, calls) in [(3, 300), (4, 300), (6, 300), (9, 320)] {
+            threads.spawn(move || play(requests, calls));
+        }
+    });
+}
+
+fn play(requests: u64, calls: usize) {
+    for_seeds(0..12, |random| {
+        let mut session = Session::new();
+        for _ in 0..calls {
+            let message = message(&session.table, random, requests);
+            session.serve(message);
+        }
+        assert!(session.seen.iter().all(|&times| times > 0), "{:?}", session.seen);
+    });
 }

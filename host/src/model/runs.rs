@@ -20,10 +20,6 @@ impl Run {
     fn valid(&self) -> bool {
         valid_range(self.first, self.last) && self.number >= 1
     }
-
-    fn covers(&self, byte: u64) -> bool {
-        self.first <= byte && byte <= self.last
-    }
 }
 
 /// Valid runs, rising, without common bytes; touching runs have different numbers.
@@ -40,20 +36,25 @@ pub fn sound_log(entries: &[Run]) -> bool {
 }
 
 /// The map that gives each byte the greatest number of an entry over it.
-/// Between two borders no entry begins or ends, so one byte speaks for the whole stretch.
+/// Between two borders no entry begins or ends, so each such stretch has one number. Greater numbers
+/// are laid over smaller ones; 0 is left where no entry lies.
 pub fn map_of(entries: &[Run]) -> Vec<Run> {
     let mut borders: Vec<u64> = entries.iter().flat_map(|e| [e.first, e.last + 1]).collect();
     borders.sort_unstable();
     borders.dedup();
+    let border = |byte: u64| borders.binary_search(&byte).expect("each end is a border");
+    let mut rising = entries.to_vec();
+    rising.sort_by_key(|entry| entry.number);
+    let mut numbers = vec![0; borders.len()];
+    for entry in rising {
+        numbers[border(entry.first)..border(entry.last + 1)].fill(entry.number);
+    }
     let mut map: Vec<Run> = Vec::new();
-    for stretch in borders.windows(2) {
+    for (stretch, &number) in borders.windows(2).zip(&numbers).filter(|(_, &number)| number > 0) {
         let (first, last) = (stretch[0], stretch[1] - 1);
-        let over = entries.iter().filter(|entry| entry.covers(first));
-        if let Some(number) = over.map(|entry| entry.number).max() {
-            match map.last_mut() {
-                Some(run) if run.last + 1 == first && run.number == number => run.last = last,
-                _ => map.push(Run { first, last, number }),
-            }
+        match map.last_mut() {
+            Some(run) if run.last + 1 == first && run.number == number => run.last = last,
+            _ => map.push(Run { first, last, number }),
         }
     }
     map

@@ -29,8 +29,9 @@ pub fn play(beside: &mut Beside, seeds: Range<u64>, requests: u64) {
                 damaged[random.below(400) as usize] ^= 1 << random.below(8);
                 beside.serve(&mut damaged, &mut events[..room], message);
             }
-            beside.serve(&mut bytes, &mut events[..room], message);
-            table = decode(&bytes).unwrap();
+            if beside.serve(&mut bytes, &mut events[..room], message).refusal == 0 {
+                table = decode(&bytes).unwrap();
+            }
         }
     });
 }
