@@ -8,6 +8,12 @@ use borrow.Author.Needs.{needs}
 use Rattle.settle.proofs.take_number.Statement.{statement}
 use Rattle.settle.proofs.take_number.Tie as tie
 
+one-more : tie.Need-add-t10
+one-more c =
+    let s = c .before .before .before .before .before .before in
+    let e = writer-next (tableOf width (now (s .args .t)) .lasts) (s .args .w) (c .before .before .before .if1 .left) in
+    omega arith
+
 put-last-requires : tie.Need-put-last-requires
 put-last-requires c κs =
     let s = c .before .before .before .before .before .before .before in
@@ -15,4 +21,4 @@ put-last-requires c κs =
     (s .pre .0, omega arith, omega arith)
 
 pub take-number-spec : {M : Type 1} → statement M
-take-number-spec = tie.close (tie.spec (λ c. search take-none) (λ c κs. search needs) (λ c. search needs) put-last-requires (λ c. search needs) (λ c. search take-next))
+take-number-spec = tie.close (tie.spec (λ c. search take-none) (λ c κs. search needs) one-more put-last-requires (λ c. search needs) (λ c. search take-next))
