@@ -137,12 +137,12 @@ class Run:
         cut = dict(os.environ, GIL_CUT=str(self.chance.randrange(1, 2**31) if kill else 0))  # for powercut.c and trap.c
         with open(self.path("commands"), "rb") as lines:
             process = subprocess.Popen(words, stdin=lines, stdout=subprocess.PIPE, env=cut)
-        first = b""
-        if self.chance.randrange(8) > 0:  # else the kill may come before the daemon is there
-            first = process.stdout.readline()
+        first, wait = b"", 0.05  # about as long as a start takes: the kill may come before the daemon is there
+        if self.chance.randrange(8) > 0:
+            first, wait = process.stdout.readline(), 0.6 * self.seconds  # a sleep is longer than it is asked to be
         begun = time.perf_counter()
         if kill and not self.inside:
-            time.sleep(0.6 * self.chance.random() * self.seconds)  # a sleep is longer than it is asked to be
+            time.sleep(wait * self.chance.random())
             process.send_signal(signal.SIGKILL)
         answers = (first + process.communicate()[0]).splitlines()
         if not kill:
