@@ -95,8 +95,9 @@ extern "C" {
 #define GIL_MAP_BYTES 20484    /* array of runs; zeros after it */
 #define GIL_LOG_BYTES 40964    /* array of entries; bytes after it may be anything */
 
-#define GIL_BYTES_PER_RECORD 40 /* handle, client, stripe, mode, state, number; first, last: 8 bytes each */
-#define GIL_BYTES_PER_EVENT (4 + GIL_BYTES_PER_RECORD) /* kind, and then the record */
+#define GIL_BYTES_SHOWN 40 /* of a record: handle, client, stripe, mode, state, number; first, last: 8 bytes each */
+#define GIL_BYTES_PER_RECORD GIL_BYTES_SHOWN      /* what is shown */
+#define GIL_BYTES_PER_EVENT (4 + GIL_BYTES_SHOWN) /* kind, and then what is shown of the record */
 #define GIL_BYTES_PER_RUN 20    /* first, last: 8 bytes each; number. An entry of the log has the same shape. */
 
 #define GIL_MAX_CLIENTS 64   /* clients are 0 to 63 */
@@ -236,8 +237,8 @@ static inline uint32_t gil_count(const uint8_t *array)
  *
  * Nobody starves. On a table that started empty a request waits only for records that were there before it,
  * and none that comes later is granted in its way. It is granted in the very call in which the last of those
- * that stand in its way goes. So once each client releases what it is asked for, every request is granted;
- * the request with the smallest handle never waits.
+ * that stand in its way goes; the request with the smallest handle never waits. So where clients release each
+ * lock that is asked back, and each that was granted canceling, every request is granted in the end.
  */
 
 /* What a message answers. If refusal is not 0, the other two are 0. */
@@ -247,7 +248,7 @@ typedef struct {
     uint64_t events;  /* how many events stand in the event buffer */
 } gil_answer;
 
-/* What a client is told: the kind of the event, and then the record as the call leaves it.
+/* What a client is told: the kind of the event, and then what is shown of the record as the call leaves it.
  *
  * A grant: the client holds the lock from now on, over first to last, which may be more than it asked for.
  * If its state is GIL_STATE_CANCELING, others wait for it already: no revocation and no acknowledge follow,
@@ -274,17 +275,17 @@ typedef struct {
 static inline gil_event gil_event_at(const uint8_t *events, size_t i)
 {
     const uint8_t *event = events + 4 + GIL_BYTES_PER_EVENT * i;
-    const uint8_t *record = event + 4;
+    const uint8_t *shown = event + 4;
     gil_event e;
     e.kind = gil_u32_at(event);
-    e.handle = gil_u32_at(record);
-    e.client = gil_u32_at(record + 4);
-    e.stripe = gil_u32_at(record + 8);
-    e.mode = gil_u32_at(record + 12);
-    e.state = gil_u32_at(record + 16);
-    e.number = gil_u32_at(record + 20);
-    e.first = gil_u64_at(record + 24);
-    e.last = gil_u64_at(record + 32);
+    e.handle = gil_u32_at(shown);
+    e.client = gil_u32_at(shown + 4);
+    e.stripe = gil_u32_at(shown + 8);
+    e.mode = gil_u32_at(shown + 12);
+    e.state = gil_u32_at(shown + 16);
+    e.number = gil_u32_at(shown + 20);
+    e.first = gil_u64_at(shown + 24);
+    e.last = gil_u64_at(shown + 32);
     return e;
 }
 

@@ -151,7 +151,7 @@ fn header() -> Constants {
 /// the library has it, there.
 type Row = (&'static [&'static str], &'static str, u64, Option<u64>);
 
-const BYTES: [Row; 9] = [
+const BYTES: [Row; 10] = [
     (&["TABLE_BYTES"], "TABLE_BYTES", locks::TABLE_BYTES as u64, Some(Table::BYTES as u64)),
     (
         &["EVENTS_BYTES"],
@@ -161,6 +161,7 @@ const BYTES: [Row; 9] = [
     ),
     (&["MAP_BYTES", "MAP_SIZE"], "MAP_BYTES", stripe::MAP_BYTES as u64, Some(Map::BYTES as u64)),
     (&["LOG_BYTES", "LOG_SIZE"], "LOG_BYTES", stripe::LOG_BYTES as u64, Some(Log::BYTES as u64)),
+    (&["SHOWN_BYTES"], "BYTES_SHOWN", locks::SHOWN_BYTES as u64, None),
     (&["RECORD_BYTES"], "BYTES_PER_RECORD", locks::RECORD_BYTES as u64, None),
     (&["EVENT_BYTES"], "BYTES_PER_EVENT", locks::EVENT_BYTES as u64, None),
     (&["MAX_RECORDS"], "MAX_RECORDS", table::RECORDS as u64, None),

@@ -17,6 +17,7 @@ IS(GIL_TABLE_BYTES, 10312);
 IS(GIL_EVENTS_BYTES, 11268);
 IS(GIL_MAP_BYTES, 20484);
 IS(GIL_LOG_BYTES, 40964);
+IS(GIL_BYTES_SHOWN, 40);
 IS(GIL_BYTES_PER_RECORD, 40);
 IS(GIL_BYTES_PER_EVENT, 44);
 IS(GIL_BYTES_PER_RUN, 20);
@@ -304,7 +305,7 @@ static void null_buffers(void)
     CHECK(gil_restart(NULL, 0, log_bytes, l) == GIL_REFUSED_MAP);
     CHECK(gil_restart(map, m, NULL, 0) == GIL_REFUSED_LOG);
     CHECK(gil_restart(NULL, 0, NULL, 0) == GIL_REFUSED_MAP);
-    CHECK(memcmp(map, zeros, m) == 0);
+    CHECK(memcmp(map, zeros, m) == 0 && memcmp(log_bytes, zeros, l) == 0);
     CHECK(note(m, l, 0, 1, 1) == 0 && image[0] == 0);
     CHECK(gil_write(NULL, 0, image, n, 0, one, 1, 1) == GIL_REFUSED_MAP);
     CHECK(gil_write(map, m, NULL, 0, 0, one, 1, 1) == GIL_REFUSED_PIECE);
@@ -339,7 +340,7 @@ static void deep_calls(void)
     }
     CHECK(gil_restart(map, m, log_bytes, l) == 0 && gil_count(map) == GIL_MAX_RUNS);
     CHECK(note(m, l, 0, n, GIL_HIGHEST) == GIL_REFUSED_ENTRIES);
-    /* an acknowledge that grants 254 requests, and a request, a downgrade and a release among 256 records */
+    /* an acknowledge that grants 254 requests, and a request, a refused downgrade and a release among 256 records */
     memset(table, 0, t);
     CHECK(ask(t, e, 0, 0, GIL_MODE_NBW, 0, 9) == 0);
     for (int i = 2; i < GIL_MAX_RECORDS; i++)

@@ -19,14 +19,15 @@ WAITING, GRANTED, ASKED, CANCELING = 0, 1, 2, 3
 GRANT, REVOCATION = 1, 2
 TABLE, EVENTS, MAP, LOG = 10_312, 11_268, 20_484, 40_964
 
-Record = namedtuple("Record", "handle client stripe mode state number first last")
+Shown = namedtuple("Shown", "handle client stripe mode state number first last")
+Record = Shown  # a record is what is shown of it
 Event = namedtuple("Event", "kind record")
 Run = namedtuple("Run", "first last number")
 Table = namedtuple("Table", "issued lasts records")
 
 
 # The layouts, as document 01 has them: each structure is its fields in order, each field a uint, a uhyper or a structure.
-LAYOUTS = {Record: "uuuuuuhh", Event: ("u", Record), Run: "hhu"}
+LAYOUTS = {Shown: "uuuuuuhh", Event: ("u", Shown), Run: "hhu"}
 
 
 def pack(packer, item):

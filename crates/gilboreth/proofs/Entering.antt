@@ -18,24 +18,25 @@ use Rattle.table.proofs.Facts.{sound→}
 use Rattle.table.proofs.Records.{locks-length}
 use Rattle.locks.specs.declared.Message.{Message}
 use Rattle.locks.specs.Serve.{serve}
+use Rattle.locks.specs.Events.{eventsSize}
 use Rattle.serve.specs.declared.Answer.{Answer}
 use Rattle.serve.specs.Leaves.{Leaves}
 use Rattle.serve.proofs.Ending.{leaves-refused}
 use Rattle.gilboreth.specs.Messages.{outcome, Serves}
 
 module _ (m : Message) (t b : List ℕ) (r : Answer) where
-  pub too-short : length b < 11268 → r ≡ record { refusal = 1; handle = 0; events = 0 } → Serves m t b r t b
+  pub too-short : length b < eventsSize width → r ≡ record { refusal = 1; handle = 0; events = 0 } → Serves m t b r t b
   unfolding outcome
-  too-short h q = rw (lt-ltb (length b) 11268 h) (leaves-refused (tableOf width t) t b r 1 (λ e. omega arith) q)
+  too-short h q = rw (lt-ltb (length b) (eventsSize width) h) (leaves-refused (tableOf width t) t b r 1 (λ e. omega arith) q)
 
-  module _ (x : Bool) (h : 11268 ≤ length b) (e : x ≡ soundTableBytes t) where
+  module _ (x : Bool) (h : eventsSize width ≤ length b) (e : x ≡ soundTableBytes t) where
     pub not-sound : not x ≡ true → r ≡ record { refusal = 2; handle = 0; events = 0 } → Serves m t b r t b
     unfolding outcome
-    not-sound f q = rw (le-ltb (length b) 11268 h, ← e, f) (leaves-refused (tableOf width t) t b r 2 (λ e. omega arith) q)
+    not-sound f q = rw (le-ltb (length b) (eventsSize width) h, ← e, f) (leaves-refused (tableOf width t) t b r 2 (λ e. omega arith) q)
 
-    pub passed : (u c : List ℕ) → not x ≡ false → Leaves (serve (tableOf width t) m) t b r u c → Serves m t b r u c
+    pub let-through : (u c : List ℕ) → not x ≡ false → Leaves (serve (tableOf width t) m) t b r u c → Serves m t b r u c
     unfolding outcome
-    passed u c f L = rw (le-ltb (length b) 11268 h, ← e, f) L
+    let-through u c f L = rw (le-ltb (length b) (eventsSize width) h, ← e, f) L
 
 all-zero : (xs : List ℕ) → T (zeros xs) → (k : ℕ) → getD xs k 0 ≡ 0
 all-zero [] t k = refl

@@ -5,7 +5,7 @@ ghost use Rattle.locks.specs.declared.Message.the-variants.{Request, Acknowledg
 ghost use Rattle.gilboreth.specs.Messages.{Serves};
 
 // How many bytes the event buffer has at least.
-pub const EVENTS_BYTES: usize = 11268;
+pub const EVENTS_BYTES: usize = locks::EVENTS + locks::EVENT_BYTES * table::MAX_RECORDS;
 
 // Serves a message on bytes of which nothing is known.
 fn call(table: &mut [u8], events: &mut [u8], m: Message) -> Answer

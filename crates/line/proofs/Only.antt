@@ -12,7 +12,7 @@ use Rattle.locks.specs.declared.Message.{Message}
 use Rattle.locks.specs.declared.Message.the-variants.{Acknowledge, Downgrade, Release}
 use Rattle.line.specs.declared.Read.the-variants.{Bad, Good}
 use Rattle.line.specs.Format.{Reading, right, wrong, largest, digitOf, readDigits, readNumber, readField}
-use Rattle.line.specs.Format.{after, numbers, readFields, requesting, naming, byLetter, longest, readLine}
+use Rattle.line.specs.Format.{readOn, numbers, readFields, requesting, naming, byLetter, longest, readLine}
 use Rattle.line.specs.Text.{decimal, fieldsText, letterOf, numbersOf, messageText}
 use Rattle.line.proofs.Decimal.{decimal-small, decimal-big}
 use Rattle.line.proofs.RoundTrip.{Fits}
@@ -86,7 +86,7 @@ field-only (b ∷ s) = go (eqb b (code ",")) refl (readNumber s) (number-only s)
     go false e r u = none
 
 -- after a wrong field all is wrong
-stays : (n : ℕ) → after n wrong ≡ wrong
+stays : (n : ℕ) → readOn n wrong ≡ wrong
 unfolding readField
 stays zero = refl
 stays (suc n) = stays n
@@ -99,13 +99,13 @@ record Spells (s ns t : List ℕ) : Type 0 where
 never : {A : Type 0} → _≡_ {A = Bool} false true → A
 never e = absurd (let z : _≡_ {A = ℕ} 0 1 = cc in let w : ⊥ = omega arith in w)
 
-fields-only : (n : ℕ) (p : Reading) → after n p .ok ≡ true → Spells (p .rest) (numbers n p) (after n p .rest)
+fields-only : (n : ℕ) (p : Reading) → readOn n p .ok ≡ true → Spells (p .rest) (numbers n p) (readOn n p .rest)
 unfolding fieldsText
 fields-only zero p ok = record { text = refl; fits = tt }
 fields-only (suc n) p ok = go (readField (p .rest)) (field-only (p .rest)) ok (fields-only n (readField (p .rest)) ok)
   where
-    go : (r : Reading) → Shows (code "," ∷ []) (p .rest) r → after n r .ok ≡ true → Spells (r .rest) (numbers n r) (after n r .rest)
-        → Spells (p .rest) (r .value ∷ numbers n r) (after n r .rest)
+    go : (r : Reading) → Shows (code "," ∷ []) (p .rest) r → readOn n r .ok ≡ true → Spells (r .rest) (numbers n r) (readOn n r .rest)
+        → Spells (p .rest) (r .value ∷ numbers n r) (readOn n r .rest)
     go wrong none k u = never (sym (ap (λ r. r .ok) (stays n)) ∙ k)
     go r (some v t m e) k u =
         let f : List ℕ → List ℕ = λ l. code "," ∷ l in
@@ -124,7 +124,7 @@ module _ (l : ℕ) (s : List ℕ) (m : Message) where
   written : (n : ℕ) (f : List ℕ → Message) → readFields n f s ≡ Good m → l ≡ letterOf (f (numbers n (right 0 s)))
       → numbersOf (f (numbers n (right 0 s))) ≡ numbers n (right 0 s) → Written (l ∷ s) m
   unfolding readFields
-  written n f h el en = go (after n (right 0 s) .ok) (after n (right 0 s) .rest) h (fields-only n (right 0 s))
+  written n f h el en = go (readOn n (right 0 s) .ok) (readOn n (right 0 s) .rest) h (fields-only n (right 0 s))
     where
       go : (x : Bool) (t : List ℕ) → cond (x && leb (length t) 0) (Good (f (numbers n (right 0 s)))) Bad ≡ Good m
           → (x ≡ true → Spells s (numbers n (right 0 s)) t) → Written (l ∷ s) m

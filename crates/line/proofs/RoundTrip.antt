@@ -12,7 +12,7 @@ use Rattle.locks.specs.declared.Message.{Message}
 use Rattle.locks.specs.declared.Message.the-variants.{Request, Acknowledge, Downgrade, Release}
 use Rattle.line.specs.declared.Read.the-variants.{Good}
 use Rattle.line.specs.Format.{Reading, right, largest, digitOf, readDigits, readNumber, readField}
-use Rattle.line.specs.Format.{after, numbers, readFields, requesting, naming, byLetter, readLine}
+use Rattle.line.specs.Format.{readOn, numbers, readFields, requesting, naming, byLetter, readLine}
 use Rattle.line.specs.Text.{digitsOf, decimal, fieldsText, numbersOf, messageText, lineBreak, lineText}
 use Rattle.line.proofs.Letters.{by-letter}
 use Rattle.line.proofs.Decimal.{top, below-top, digits-small, digits-big, at-most-20}
@@ -76,8 +76,8 @@ field-back n ns t m h = rw append-assoc (number-back n (fieldsText ns ++ t) m (f
 
 -- the fields are read, up to what stands behind them
 pub record Backs (n : ℕ) (p : Reading) (ns t : List ℕ) : Type 0 where
-  pub fine : after n p .ok ≡ true
-  pub rest : after n p .rest ≡ t
+  pub fine : readOn n p .ok ≡ true
+  pub rest : readOn n p .rest ≡ t
   pub same : numbers n p ≡ ns
 
 pub fields-back : (v : ℕ) (ns t : List ℕ) → Fits ns → Stops t → Backs (length ns) (right v (fieldsText ns ++ t)) ns t
@@ -87,8 +87,8 @@ fields-back v (n ∷ ns) t f h =
     let e = field-back n ns t (f .0) h in
     let b = fields-back n ns t (f .1) h in
     record {
-      fine = ap (λ r. after (length ns) r .ok) e ∙ b .fine;
-      rest = ap (λ r. after (length ns) r .rest) e ∙ b .rest;
+      fine = ap (λ r. readOn (length ns) r .ok) e ∙ b .fine;
+      rest = ap (λ r. readOn (length ns) r .rest) e ∙ b .rest;
       same = ap (λ r. r .value ∷ numbers (length ns) r) e ∙ ap (λ (l : List ℕ). n ∷ l) (b .same);
     }
 

@@ -49,9 +49,9 @@ readField [] = wrong
 readField (b ∷ s) = cond (eqb b (code ",")) (readNumber s) wrong
 
 -- n more fields after p: how far the line is read then, and their numbers. After a wrong field nothing is left, so the next is wrong too
-abbrev pub after : ℕ → Reading → Reading
-after zero p = p
-after (suc n) p = after n (readField (p .rest))
+abbrev pub readOn : ℕ → Reading → Reading
+readOn zero p = p
+readOn (suc n) p = readOn n (readField (p .rest))
 
 abbrev pub numbers : ℕ → Reading → List ℕ
 numbers zero p = []
@@ -63,7 +63,7 @@ ended p m = cond (p .ok && leb (length (p .rest)) 0) (Good m) Bad
 
 -- A line of n fields, whose numbers make a message
 unfoldable pub readFields : ℕ → (List ℕ → Message) → List ℕ → Read
-readFields n m s = let p = right 0 s in ended (after n p) (m (numbers n p))
+readFields n m s = let p = right 0 s in ended (readOn n p) (m (numbers n p))
 
 abbrev pub requesting : List ℕ → Message
 requesting ns = Request (getD ns 0 0) (getD ns 1 0) (getD ns 2 0) (getD ns 3 0) (getD ns 4 0)

@@ -5,6 +5,7 @@ use libc::STDOUT_FILENO;
 use line::Read;
 use locks::Message;
 use serve::Answer;
+use table::MAX_RECORDS;
 use table::TABLE_BYTES;
 ghost use Rattle.gilboreth.specs.Messages.{Serves};
 ghost use Rattle.lockline.specs.Program.{Lent, Ready, Answers, Feeds, Ends, Pours};
@@ -13,7 +14,7 @@ ghost use Rattle.lockline.specs.Program.{Lent, Ready, Answers, Feeds, En
 const LINE_BYTES: usize = 130;
 
 // How many bytes the lines of an answer have at most: 45, and 171 for each of 256 events.
-const OUT_BYTES: usize = 43821;
+const OUT_BYTES: usize = 45 + 171 * MAX_RECORDS;
 
 // Serves a message through the entry that C gets.
 fn call(table: &mut [u8], events: &mut [u8], m: Message) -> Answer

@@ -53,7 +53,7 @@ module _ (m l : List ℕ) (e : Extent) (image : ℕ) where
       let R = noteList m l e image in
       refused k h (a ∙ first-stays (take 4 R) (drop 4 R) (λ z. h (a ∙ z)))
 
-  pub record Passed : Type 0 where
+  pub record Unrefused : Type 0 where
     pub mapped : soundMapBytes m ≡ true
     pub logged : soundLogBytes l ≡ true
     pub placed : misplaced e image ≡ false
@@ -65,9 +65,9 @@ module _ (m l : List ℕ) (e : Extent) (image : ℕ) where
     pub piece : entry ≡ place e
     pub valid : Valid entry
 
-  pub passed : (k : ℕ) → k ≡ noteEarly m l e image → k ≡ 0 → Passed
+  pub unrefused : (k : ℕ) → k ≡ noteEarly m l e image → k ≡ 0 → Unrefused
   unfolding noteEarly
-  passed k a z =
+  unrefused k a z =
       let R = take 4 (noteList m l e image) in
       let t = unbroken R tt (eq→eqb (firstHit R) 0 (sym a ∙ z)) in
       let f : soundMapBytes m ≡ true = search tests in
@@ -89,7 +89,7 @@ module _ (m l : List ℕ) (e : Extent) (image : ℕ) where
         valid = subst Valid (sym q) (place-valid e p (numbered e d));
       }
 
-  module _ (P : Passed) (old s : List ℕ) (k : ℕ) (d : Stored (raise entry (runsOf width m)) old s k) where
+  module _ (P : Unrefused) (old s : List ℕ) (k : ℕ) (d : Stored (raise entry (runsOf width m)) old s k) where
     drawn : Stored (raise (place e) (runsOf width m)) old s k
     drawn = subst (λ (r : Run). Stored (raise r (runsOf width m)) old s k) (P .piece) d
 

@@ -20,9 +20,9 @@ module _ (map : List ℕ) (p : Piece) (image : List ℕ) (r : ℕ) (e : r ≡ wr
   write-refused n = record { answers = e; stores = rw (← e, ne-eqb r 0 n) }
 
   module _ (z : r ≡ 0) where
-    pub write-passed : WriteFacts (soundMapBytes map) (runsOf width map) (extentOf p) (length image)
+    pub write-unrefused : WriteFacts (soundMapBytes map) (runsOf width map) (extentOf p) (length image)
     unfolding writeAnswer
-    write-passed = write-facts (soundMapBytes map) (runsOf width map) (extentOf p) (length image) (sym e ∙ z)
+    write-unrefused = write-facts (soundMapBytes map) (runsOf width map) (extentOf p) (length image) (sym e ∙ z)
 
     pub write-accepted : (k : ℕ) (part : List ℕ) → k ≡ length (p .bytes) → part ≡ stored (runsOf width map) (ageOf (placeOf p)) (p .first) (p .bytes) (midOf (p .first) k image)
         → Writes map p image 0 (putMid (p .first) k image part)

@@ -41,15 +41,15 @@ use Rattle.promises.proofs.Settled.{good, is-accepted, serve-reasoned}
 use Rattle.promises.proofs.Demand2.{demand2}
 
 -- A table that keeps the order, with an obstacle for each waiting request
-record Steady (X : Table) : Type 0 where
+record InOrder (X : Table) : Type 0 where
   sound : T (sound X)
   order : T (inOrder (X .locks))
   stuck : T (all (stuck (X .locks)) (X .locks))
 
-serve-steady : (X : Table) (m : Message) → Steady X → Steady (serve X m .table)
-serve-steady X m K = record { sound = serve-sound X m (K .sound); order = serve-in-order X m (K .sound) (K .order); stuck = serve-stuck X m (K .sound) (K .stuck) }
+serve-keeps-order : (X : Table) (m : Message) → InOrder X → InOrder (serve X m .table)
+serve-keeps-order X m K = record { sound = serve-sound X m (K .sound); order = serve-in-order X m (K .sound) (K .order); stuck = serve-stuck X m (K .sound) (K .stuck) }
 
-module _ (X : Table) (K : Steady X) where
+module _ (X : Table) (K : InOrder X) where
   elders : (w r : Lock) → Among w (X .locks) → Among r (X .locks) → T (waits w) → T (obstacle w r) → handleOf r < handleOf w
   unfolding agree
   elders w r h k t o =
@@ -116,7 +116,7 @@ settled-long U S =
     length-map rs (revoked rs) ∙ turns-sound U S (length (U .locks)) (omega arith) .long
 
 -- A waiting request w that the message finds, and leaves as v
-module _ (X : Table) (m : Message) (K : Steady X) (w v : Lock) (h : Among w (X .locks)) (t : T (waits w)) (k : Among v (serve X m .table .locks)) (e : handleOf v ≡ handleOf w)
+module _ (X : Table) (m : Message) (K : InOrder X) (w v : Lock) (h : Among w (X .locks)) (t : T (waits w)) (k : Among v (serve X m .table .locks)) (e : handleOf v ≡ handleOf w)
     (p : (r : Lock) → Among r (serve X m .table .locks) → handleOf r < handleOf w → T (not (obstacle w r))) where
   abbrev Told : Type 0
   Told = (x : Event) × Among x (serve X m .events) × (x .kind ≡ 1) × (handleOf (x .lock) ≡ handleOf w)
@@ -124,7 +124,7 @@ module _ (X : Table) (m : Message) (K : Steady X) (w v : Lock) (h : Among w (X .
   -- it cannot be that it still waits
   not-waiting : v ≡ w → ⊥
   not-waiting d =
-      let a = held-up (serve X m .table) (serve-steady X m K) w (subst (λ (x : Lock). Among x (serve X m .table .locks)) d k) t in
+      let a = held-up (serve X m .table) (serve-keeps-order X m K) w (subst (λ (x : Lock). Among x (serve X m .table .locks)) d k) t in
       T-not (obstacle w (a .0)) (p (a .0) (a .1) (a .3)) (a .2)
 
   by-refusal : T (not (eqb (refusal X m) 0)) → Told
@@ -185,7 +185,7 @@ pub none-overtaken : NoneOvertaken
 none-overtaken ms es t S =
     let F = demand2 .follow ms es t S in
     let X : Table = tableOf width t in
-    let K : Steady X =
+    let K : InOrder X =
     record {
       sound = bytes-sound t (F .sound);
       order = subst (λ (Y : Table). T (inOrder (Y .locks))) (sym (F .table)) (session-in-order ms);

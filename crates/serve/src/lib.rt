@@ -15,15 +15,14 @@ use table::MAX_CLIENT;
 use table::MAX_RECORDS;
 use table::MAX_STRIPE;
 ghost use mathlib.Core.Path.{_≡_};
-ghost use Prim.Native.Nat.{_≤_, _<_};
-ghost use lib.ListN.{length};
 ghost use Rattle.common.specs.Counters.{width};
 ghost use Rattle.common.specs.Refusals.{firstHit};
+ghost use Rattle.table.specs.Table.{maxRecords};
 ghost use Rattle.table.specs.Bytes.{locksOf, tableOf};
 ghost use Rattle.table.specs.Places.{countOf, Shape, Good, First};
 ghost use Rattle.locks.specs.declared.Message.the-variants.{Request, Release};
 ghost use Rattle.locks.specs.Refusals.{requestRules};
-ghost use Rattle.locks.specs.Events.{eventsSize};
+ghost use Rattle.locks.specs.Events.{Room};
 ghost use Rattle.serve.specs.Posts.{OnSound, Ends, has, Finds, asks, ready, becoming};
 
 // What a call answers: its refusal or 0, the handle that it made or named, and how many events it wrote.
@@ -47,7 +46,7 @@ pub fn refused(k: u64) -> Answer
 
 // Settles the changed table, stores how many events there are, and answers the handle h.
 fn finish(t: &mut [u8], b: &mut [u8], n: usize, h: Handle) -> Answer
-    requires { ⌜ Good n (now t) × (eventsSize width ≤ length (now b)) ⌝ }
+    requires { ⌜ Good n (now t) × Room maxRecords (now b) ⌝ }
     ensures { λ r. ⌜ Ends (h .0) (tableOf width (now (t .entry))) (now (b .entry)) r (now (t .exit)) (now (b .exit)) ⌝ }
 {
     let k = settle::settle(t, b, n, 0);
@@ -104,7 +103,7 @@ fn request(
     first: u64,
     last: u64,
 ) -> Answer
-    requires { ⌜ Good n (now t) × (eventsSize width ≤ length (now b)) ⌝ }
+    requires { ⌜ Good n (now t) × Room maxRecords (now b) ⌝ }
     ensures { λ r. ⌜ OnSound (Request client stripe mode first last) (now (t .entry)) (now (b .entry)) r (now (t .exit)) (now (b .exit)) ⌝ }
 {
     let k = request_refusal(t, n, client, stripe, mode, first, last);
@@ -205,7 +204,7 @@ fn becoming(l: Lock, to: Becomes) -> Lock
 
 // Remakes the client's record with the handle, and settles.
 fn remake(t: &mut [u8], b: &mut [u8], n: usize, client: u64, handle: Handle, to: Becomes) -> Answer
-    requires { ⌜ Good n (now t) × (eventsSize width ≤ length (now b)) ⌝ }
+    requires { ⌜ Good n (now t) × Room maxRecords (now b) ⌝ }
     ensures { λ r. ⌜ OnSound (asks to client (handle .0)) (now (t .entry)) (now (b .entry)) r (now (t .exit)) (now (b .exit)) ⌝ }
 {
     let f = named(t, n, client, handle);
@@ -222,7 +221,7 @@ fn remake(t: &mut [u8], b: &mut [u8], n: usize, client: u64, handle: Handle, to:
 
 // Removes a record, or withdraws a request, and settles.
 fn release(t: &mut [u8], b: &mut [u8], n: usize, client: u64, handle: Handle) -> Answer
-    requires { ⌜ Good n (now t) × (eventsSize width ≤ length (now b)) ⌝ }
+    requires { ⌜ Good n (now t) × Room maxRecords (now b) ⌝ }
     ensures { λ r. ⌜ OnSound (Release client (handle .0)) (now (t .entry)) (now (b .entry)) r (now (t .exit)) (now (b .exit)) ⌝ }
 {
     let f = named(t, n, client, handle);
@@ -235,7 +234,7 @@ fn release(t: &mut [u8], b: &mut [u8], n: usize, client: u64, handle: Handle) ->
 
 // Serves one message.
 pub fn serve(t: &mut [u8], b: &mut [u8], m: Message) -> Answer
-    requires { ⌜ Good (countOf (now t)) (now t) × (eventsSize width ≤ length (now b)) ⌝ }
+    requires { ⌜ Good (countOf (now t)) (now t) × Room maxRecords (now b) ⌝ }
     ensures { λ r. ⌜ OnSound m (now (t .entry)) (now (b .entry)) r (now (t .exit)) (now (b .exit)) ⌝ }
 {
     let n = table::count(t);

@@ -10,7 +10,7 @@ use std::iter::FusedIterator;
 use std::slice::ChunksExact;
 
 /// An event is its kind, then its record.
-const EVENT: usize = 4 + Record::BYTES;
+const EVENT: usize = 4 + Record::SHOWN;
 /// At most 256 events arise in a call.
 const EVENTS: usize = 256;
 

@@ -18,7 +18,9 @@ pub struct Record {
 }
 
 impl Record {
-    pub(super) const BYTES: usize = 40;
+    /// What is shown of a record, in an event too.
+    pub(super) const SHOWN: usize = 40;
+    pub(super) const BYTES: usize = Record::SHOWN;
 
     /// The record in 40 bytes, unless its mode or state has no meaning.
     pub(super) fn read(bytes: &[u8]) -> Option<Record> {

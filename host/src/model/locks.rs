@@ -9,9 +9,11 @@ use super::xdr::{array, hyper, put_array, put_hyper, put_unsigned, unsigned, zer
 /// Handles issued, the last numbers, then the array of records, whose count stands first.
 const NUMBERS_AT: usize = 4;
 pub const RECORDS_AT: usize = NUMBERS_AT + 4 * STRIPES;
-pub const RECORD_BYTES: usize = 40;
-/// An event is its kind and then its record.
-pub const EVENT_BYTES: usize = 4 + RECORD_BYTES;
+pub const SHOWN_BYTES: usize = 40;
+/// A record is what is shown of it.
+pub const RECORD_BYTES: usize = SHOWN_BYTES;
+/// An event is its kind and then what is shown of its record.
+pub const EVENT_BYTES: usize = 4 + SHOWN_BYTES;
 
 /// The exact length of a table.
 pub const TABLE_BYTES: usize = RECORDS_AT + 4 + RECORD_BYTES * RECORDS;

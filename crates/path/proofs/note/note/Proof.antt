@@ -7,14 +7,14 @@ use borrow.Author.Needs.{needs}
 use denote.Ref.{now}
 use Rattle.common.specs.Counters.{width}
 use Rattle.runs.specs.Bytes.{mapSize}
-use Rattle.path.proofs.Noting.{Passed, note-early, passed, note-16, note-17, note-0}
+use Rattle.path.proofs.Noting.{Unrefused, note-early, unrefused, note-16, note-17, note-0}
 use Rattle.path.proofs.note.note.Statement.{statement}
 use Rattle.path.proofs.note.note.Tie as tie
 
--- once the early refusals are passed
+-- once none of the early refusals is given
 facts :
-    (c : tie.Else1) → let a = c .before .before .before .before .before .before .args in Passed (now (a .map)) (now (a .log)) (a .e) (a .image)
-facts c = passed _ _ _ _ _ (c .before .early .ensures) (c .if1 .left)
+    (c : tie.Else1) → let a = c .before .before .before .before .before .before .args in Unrefused (now (a .map)) (now (a .log)) (a .e) (a .image)
+facts c = unrefused _ _ _ _ _ (c .before .early .ensures) (c .if1 .left)
 
 sub-t14 : tie.Need-sub-t14
 sub-t14 c = omega (arith, facts (c .before) .some)

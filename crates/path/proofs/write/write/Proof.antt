@@ -6,7 +6,7 @@ use borrow.Author.Needs.{needs}
 use denote.Ref.{now}
 use Rattle.stripe.specs.Piece.{piece, extentOf}
 use Rattle.stripe.proofs.Accepted.{numbered-pos, numbered-exact}
-use Rattle.path.proofs.WriteOutcome.{write-refused, write-passed, write-accepted}
+use Rattle.path.proofs.WriteOutcome.{write-refused, write-unrefused, write-accepted}
 use Rattle.path.proofs.write.write.Statement.{statement}
 use Rattle.path.proofs.write.write.Tie as tie
 
@@ -26,13 +26,13 @@ returns-2 c =
 add-end : tie.Need-add-end
 add-end c =
     let a = c .before .before .before .before .before .args in
-    let f = write-passed (now (a .map)) (piece (a .first) (now (a .bytes)) (a .number .0)) (now (a .image)) _ (c .before .refusal .ensures) (c .if1 .left) in
+    let f = write-unrefused (now (a .map)) (piece (a .first) (now (a .bytes)) (a .number .0)) (now (a .image)) _ (c .before .refusal .ensures) (c .if1 .left) in
     omega arith
 
 part-store-end : tie.Need-part-store-end
 part-store-end c =
     let a = c .before .before .before .before .before .args in
-    let f = write-passed (now (a .map)) (piece (a .first) (now (a .bytes)) (a .number .0)) (now (a .image)) _ (c .before .refusal .ensures) (c .if1 .left) in
+    let f = write-unrefused (now (a .map)) (piece (a .first) (now (a .bytes)) (a .number .0)) (now (a .image)) _ (c .before .refusal .ensures) (c .if1 .left) in
     omega arith
 
 store-requires : tie.Need-store-requires
@@ -40,7 +40,7 @@ store-requires c κs =
     let t = c .before .before in
     let a = t .before .before .before .before .before .args in
     let p = piece (a .first) (now (a .bytes)) (a .number .0) in
-    let f = write-passed (now (a .map)) p (now (a .image)) _ (t .before .refusal .ensures) (t .if1 .left) in
+    let f = write-unrefused (now (a .map)) p (now (a .image)) _ (t .before .refusal .ensures) (t .if1 .left) in
     rw (c .age-of .ensures) (f .mapped, numbered-pos (extentOf p) (f .numbered), numbered-exact (extentOf p) (f .numbered), simp (length-take, length-drop) (omega arith))
 
 pub write-spec : {M : Type 1} → statement M
