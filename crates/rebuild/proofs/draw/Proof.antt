@@ -41,12 +41,6 @@ owned-requires c κs =
     let f = log-facts _ (o .pre .0 .0) in
     (o .pre .0 .0, omega (arith, w .few, w .most, f .few), w .inside)
 
-push-requires : tie.Need-push-requires Inv-loop μ-loop
-push-requires c κs =
-    let o = c .before .before .before .before .before .before .before .before .before .before .before .before .before .before .before .before in
-    let l = c .before .before .before .before .before .before .before .before .before .before .loop in
-    (omega (arith, l .inv .0), l .inv .2, rw (c .before .owned .ensures, c .before .before .next-first .ensures) (owns _ _ (log-facts _ (o .pre .0 .0)) (o .pre .0 .2) _ _ _ (c .before .before .before .before .before .before .advance .ensures) .exact))
-
 -- the pen goes on as far as the owner is the same
 went :
     (c : tie.After-slice-known4 Inv-loop μ-loop) → let o = c .before .before .before .before .before .before .before .before .before .before .before .before .before .before .before .before .before .before .before .args in
@@ -57,6 +51,12 @@ went c =
     stretched (l .p) _ (l .out) _ _ _ _
     (rw (c .before .before .before .before .owned .ensures, c .before .before .before .before .before .next-first .ensures) (owns _ _ (log-facts _ (o .pre .0 .0)) (o .pre .0 .2) _ _ _ (c .before .before .before .before .before .before .before .before .before .advance .ensures)))
     (c .before .before .push .ensures) (l .inv .4)
+
+push-requires : tie.Need-push-requires Inv-loop μ-loop
+push-requires c κs =
+    let o = c .before .before .before .before .before .before .before .before .before .before .before .before .before .before .before .before in
+    let l = c .before .before .before .before .before .before .before .before .before .before .loop in
+    (omega (arith, l .inv .0), l .inv .2, rw (c .before .owned .ensures, c .before .before .next-first .ensures) (owns _ _ (log-facts _ (o .pre .0 .0)) (o .pre .0 .2) _ _ _ (c .before .before .before .before .before .before .advance .ensures) .exact))
 
 loop-again : tie.Need-loop-again Inv-loop μ-loop
 loop-again c =
