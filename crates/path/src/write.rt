@@ -18,7 +18,7 @@ fn refusal(map: &[u8], e: Extent, image: u64) -> u64
     if extent::is_misnumbered(e) {
         return 15;
     }
-    if store::is_behind(map, e.first, e.len, extent::age_of(e)) {
+    if behind::is_behind(map, e.first, e.len, extent::age_of(e)) {
         return 18;
     }
     0

@@ -2,3 +2,4 @@ pub mod Places
 pub mod Apart
 pub mod Facts
 pub mod Tally
+pub mod Walk

@@ -10,7 +10,8 @@ use Rattle.runs.specs.Ages.{valueOf}
 use Rattle.runs.specs.Bytes.{runsOf}
 use Rattle.runbytes.proofs.Facts.{map-facts}
 use Rattle.stripe.specs.Stripe.{stored}
-use Rattle.store.proofs.Walk.{room, valid-here, stored-more, stored-end}
+use Rattle.runbytes.proofs.Walk.{room, valid-here}
+use Rattle.store.proofs.Walk.{stored-more, stored-end}
 use Rattle.store.proofs.store.Statement.{statement}
 use Rattle.store.proofs.store.Tie as tie
 

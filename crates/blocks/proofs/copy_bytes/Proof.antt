@@ -7,8 +7,8 @@ use lib.ListN.{length, take, length-set}
 use lib.Seq.{take-all, take-suc, take-suc-set}
 use borrow.Author.Needs.{needs}
 use denote.Ref.{now}
-use Rattle.store.proofs.copy_bytes.Statement.{statement}
-use Rattle.store.proofs.copy_bytes.Tie as tie
+use Rattle.blocks.proofs.copy_bytes.Statement.{statement}
+use Rattle.blocks.proofs.copy_bytes.Tie as tie
 
 abbrev Inv-loop : tie.InvT-loop
 Inv-loop part₀ piece i₀ part i = (i ≤ length piece) × (length part ≡ length piece) × (take i part ≡ take i piece)

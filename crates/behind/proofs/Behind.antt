@@ -15,7 +15,7 @@ use Rattle.runs.specs.Owner.{ageOf, owner}
 use Rattle.runs.proofs.Over.{sides, owner-after}
 use Rattle.runs.proofs.Canon.{Canon, head, rest, canon-start, canon-before, canon-head}
 use Rattle.stripe.specs.Refusals.{behind}
-use Rattle.store.specs.Onward.{onward}
+use Rattle.behind.specs.Onward.{onward}
 
 -- the run is before the byte or after it, or over it and older, or leads on past it
 module _ (r : Run) (age b : ℕ) where

@@ -3,9 +3,9 @@ use mathlib.Core.Path.{sym, _∙_}
 use borrow.Author.Needs.{needs}
 use borrow.Author.Tests.{ltb-true, ltb-false}
 use Rattle.runs.proofs.Ages.{valid-exact}
-use Rattle.store.proofs.Behind.{onward-before, onward-after, onward-under, onward-in}
-use Rattle.store.proofs.onward.Statement.{statement}
-use Rattle.store.proofs.onward.Tie as tie
+use Rattle.behind.proofs.Behind.{onward-before, onward-after, onward-under, onward-in}
+use Rattle.behind.proofs.onward.Statement.{statement}
+use Rattle.behind.proofs.onward.Tie as tie
 
 returns-3 : tie.Need-returns-3
 returns-3 c = onward-under _ _ _ (ltb-true _ _ (sym (c .before .older .ensures) ∙ c .if3 .taken))

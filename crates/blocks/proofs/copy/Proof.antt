@@ -8,8 +8,8 @@ use lib.Seq.{take-all, take-at, take-add}
 use borrow.Author.Needs.{needs}
 use borrow.Rule.Slice.PartMut.{midOf, putMid}
 use denote.Ref.{now}
-use Rattle.store.proofs.copy.Statement.{statement}
-use Rattle.store.proofs.copy.Tie as tie
+use Rattle.blocks.proofs.copy.Statement.{statement}
+use Rattle.blocks.proofs.copy.Tie as tie
 
 -- put in from place i up to before place e, the piece's bytes make the first e right
 grown : (i e : ℕ) (part piece : List ℕ) → i ≤ e → e ≤ length piece → take i part ≡ take i piece

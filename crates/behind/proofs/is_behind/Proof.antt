@@ -11,9 +11,10 @@ use Rattle.runs.specs.Ages.{valueOf}
 use Rattle.runs.specs.Bytes.{runsOf}
 use Rattle.runbytes.proofs.Facts.{map-facts}
 use Rattle.stripe.specs.Refusals.{behind}
-use Rattle.store.proofs.Walk.{room, valid-here, behind-more, behind-end}
-use Rattle.store.proofs.is_behind.Statement.{statement}
-use Rattle.store.proofs.is_behind.Tie as tie
+use Rattle.runbytes.proofs.Walk.{room, valid-here}
+use Rattle.behind.proofs.Walk.{behind-more, behind-end}
+use Rattle.behind.proofs.is_behind.Statement.{statement}
+use Rattle.behind.proofs.is_behind.Tie as tie
 
 abbrev Inv-loop : tie.InvT-loop
 Inv-loop map first len age n b₀ i₀ b i =
