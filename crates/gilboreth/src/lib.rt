@@ -1,5 +1,3 @@
 // The public entries, exported to C: numbers and byte buffers in, a refusal number out. No entry has a requires.
 pub mod messages;
-pub mod note;
-pub mod restart;
-pub mod write;
+pub mod path;

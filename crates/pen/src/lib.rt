@@ -5,7 +5,7 @@ ghost use mathlib.Core.Path.{_≡_};
 ghost use Prim.Native.Nat.{_+_, _≤_};
 ghost use lib.ListN.{length, take, drop};
 ghost use Rattle.common.specs.Counters.{width};
-ghost use Rattle.xdr.specs.Be.{be};
+ghost use Rattle.xdr.specs.Be.{be, putBe};
 ghost use Rattle.runs.specs.Ages.{valueOf, Exact};
 ghost use Rattle.runs.specs.Sound.{maxRuns};
 ghost use Rattle.runs.specs.Bytes.{mapSize, runsOf};
@@ -93,4 +93,13 @@ pub fn keep(out: &mut [u8], k: usize, map: &[u8], from: usize, n: usize)
         runbytes::put_run(out, k + i, runbytes::run_at(map, from + i));
         i += 1;
     }
+}
+
+// Fills the map with the k runs that are drawn in scratch.
+pub fn fill(map: &mut [u8], scratch: &[u8], k: usize)
+    requires { ⌜ (length (now map) ≡ mapSize width) × (length (now scratch) ≡ mapSize width) ⌝ }
+    ensures { λ _. ⌜ now (map .exit) ≡ putBe 4 (now (scratch .entry)) 0 k ⌝ }
+{
+    bytes::copy(scratch, map);
+    runbytes::put_count(map, k);
 }

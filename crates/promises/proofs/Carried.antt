@@ -29,8 +29,8 @@ use Rattle.runs.proofs.MapBytes.{map-back, map-back-sound}
 use Rattle.runs.proofs.LogBytes.{LogBytes, log-bytes, bytes-log, entries, log-same}
 use Rattle.stripe.specs.declared.Extent.{Extent}
 use Rattle.stripe.specs.Piece.{place}
-use Rattle.path.specs.Note.{noteAnswer, noteMap, noteLog}
-use Rattle.path.specs.Restart.{restartAnswer, restartMap}
+use Rattle.note.specs.Note.{noteAnswer, noteMap, noteLog}
+use Rattle.restart.specs.Restart.{restartAnswer, restartMap}
 use Rattle.stripe.proofs.Accepted.{NoteFacts, facts-restart}
 use Rattle.promises.specs.Logged.{Appends, Raises}
 use Rattle.promises.specs.Run.{Piece, extentOf, placeOf, size, Map, lost, live, Stripe, EmptyLog, begin, Step, note, noteCut, write, writeCut, restart, cut, noteOk, afterNote, afterWrite, scrambled, next}

@@ -24,9 +24,9 @@ use Rattle.serve.specs.declared.Answer.{Answer}
 use Rattle.gilboreth.specs.Messages.{entryRules, outcome, Serves}
 use Rattle.stripe.specs.declared.Extent.{Extent}
 use Rattle.stripe.specs.Piece.{Piece, extentOf}
-use Rattle.path.specs.Note.{noteAnswer, noteMap, noteLog}
-use Rattle.path.specs.Write.{writeAnswer, writeImage}
-use Rattle.path.specs.Restart.{restartAnswer, restartMap}
+use Rattle.note.specs.Note.{noteAnswer, noteMap, noteLog}
+use Rattle.write.specs.Write.{writeAnswer, writeImage}
+use Rattle.restart.specs.Restart.{restartAnswer, restartMap}
 use Rattle.promises.specs.Demand1.{Judged, Served, OfMessage, OfNote, OfWrite, OfRestart}
 use Rattle.promises.proofs.Outcomes.{judged, outcome-hit, outcome-alone, outcome-sound, outcome-listed}
 use Rattle.promises.proofs.StripeRefusals.{note-listed, write-listed, restart-listed, note-refused, write-refused, restart-refused}

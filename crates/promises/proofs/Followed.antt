@@ -20,8 +20,8 @@ use Rattle.stripe.specs.Piece.{extent, place, piece}
 use Rattle.stripe.specs.Refusals.{noteRules, writeRules}
 use Rattle.stripe.specs.Stripe as rules
 use Rattle.stripe.specs.Stripe.{note, write, answer, noted, wrote, written}
-use Rattle.path.specs.Note.{noteAnswer, noteMap, noteLog}
-use Rattle.path.specs.Write.{writeAnswer, writeImage}
+use Rattle.note.specs.Note.{noteAnswer, noteMap, noteLog}
+use Rattle.write.specs.Write.{writeAnswer, writeImage}
 use Rattle.promises.specs.Run.{Piece, extentOf, ageOf, live, Stripe, next, afterNote, afterWrite}
 use Rattle.promises.specs.Run as run
 use Rattle.promises.specs.Examples.{Call, noting, writing}

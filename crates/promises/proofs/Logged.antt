@@ -23,7 +23,7 @@ use Rattle.runs.proofs.LogBytes.{LogBytes, log-bytes, log-other, log-long, log-
 use Rattle.stripe.specs.declared.Extent.{Extent}
 use Rattle.stripe.specs.Piece.{place}
 use Rattle.stripe.proofs.Accepted.{NoteFacts, note-facts, place-valid}
-use Rattle.path.specs.Note.{noteAnswer, noteMap, noteLog}
+use Rattle.note.specs.Note.{noteAnswer, noteMap, noteLog}
 use Rattle.promises.specs.Logged.{Appends, Raises, Logged}
 
 module _ (m l : List ℕ) (x : Extent) (image : ℕ) (e : noteAnswer m l x image ≡ 0) where

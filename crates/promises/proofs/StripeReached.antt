@@ -24,9 +24,9 @@ use Rattle.runs.proofs.MapBytes.{run-fits, bytes-length, bytes-back, map-back, 
 use Rattle.runs.proofs.LogBytes.{bytes-log}
 use Rattle.stripe.specs.Piece.{extent, place}
 use Rattle.stripe.specs.Refusals.{behind}
-use Rattle.path.specs.Note.{noteAnswer}
-use Rattle.path.specs.Write.{writeAnswer}
-use Rattle.path.specs.Restart.{restartAnswer}
+use Rattle.note.specs.Note.{noteAnswer}
+use Rattle.write.specs.Write.{writeAnswer}
+use Rattle.restart.specs.Restart.{restartAnswer}
 use Rattle.promises.proofs.Spaced.{spaced, spaced-length, spaced-small, spaced-valid, spaced-fit, spaced-map, spaced-sound, spaced-raised}
 
 -- 12, 13, 14, 15 and 18 on an empty map and log

@@ -16,9 +16,9 @@ use Rattle.stripe.specs.declared.Extent.{Extent}
 use Rattle.stripe.specs.Piece.{place, Piece, extentOf, placeOf}
 use Rattle.stripe.specs.Refusals.{noteRules, writeRules, restartRules}
 use Rattle.stripe.specs.Stripe.{written}
-use Rattle.path.specs.Note.{noteAnswer, noteMap, noteLog}
-use Rattle.path.specs.Write.{writeAnswer, writeImage}
-use Rattle.path.specs.Restart.{restartAnswer, restartMap}
+use Rattle.note.specs.Note.{noteAnswer, noteMap, noteLog}
+use Rattle.write.specs.Write.{writeAnswer, writeImage}
+use Rattle.restart.specs.Restart.{restartAnswer, restartMap}
 
 -- From the list
 pub note-listed : (m l : List ℕ) (e : Extent) (i : ℕ) → T (any (eqb (noteAnswer m l e i)) (0 ∷ 12 ∷ 13 ∷ 14 ∷ 15 ∷ 16 ∷ 17 ∷ []))

@@ -19,8 +19,8 @@ use Rattle.runs.specs.Bytes.{runsOf, soundMapBytes}
 use Rattle.runs.proofs.Over.{over-in, over-before, over-after, owner-snoc}
 use Rattle.runs.proofs.Draw.{map-owner}
 use Rattle.stripe.specs.Stripe.{written}
-use Rattle.path.specs.Write.{writeAnswer, writeImage}
-use Rattle.path.specs.Restart.{restartAnswer, restartMap}
+use Rattle.write.specs.Write.{writeAnswer, writeImage}
+use Rattle.restart.specs.Restart.{restartAnswer, restartMap}
 use Rattle.stripe.proofs.Accepted.{WriteFacts, write-facts, numbered-pos}
 use Rattle.stripe.proofs.Stored.{written-length, written-in, written-out}
 use Rattle.promises.specs.Run.{Piece, extentOf, placeOf, ageOf, size, Covers, byteOf, Map, lost, live, Stripe, Step, note, noteCut, write, writeCut, restart, cut, noteOk, writeOk, afterNote, afterWrite, scrambled, torn, unplugged, next, notes, Write, writes}

@@ -21,9 +21,9 @@ use Rattle.stripe.specs.Piece.{Piece, extentOf}
 use Rattle.stripe.specs.Refusals.{writeRules, restartRules}
 use Rattle.serve.specs.declared.Answer.{Answer}
 use Rattle.gilboreth.specs.Messages.{entryRules, outcome, Serves}
-use Rattle.path.specs.Note.{noteList, noteAnswer, Notes}
-use Rattle.path.specs.Write.{writeAnswer, Writes}
-use Rattle.path.specs.Restart.{restartAnswer, Restarts}
+use Rattle.note.specs.Note.{noteList, noteAnswer, Notes}
+use Rattle.write.specs.Write.{writeAnswer, Writes}
+use Rattle.restart.specs.Restart.{restartAnswer, Restarts}
 
 -- "the first hit in the stated order": n is the number of a rule that the call breaks, and it keeps every rule before that one
 abbrev pub keeps : List Rule → Bool

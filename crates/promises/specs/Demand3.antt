@@ -10,7 +10,7 @@ use lib.ListN.{length, getD}
 use Rattle.common.specs.Counters.{width}
 use Rattle.runs.specs.Map.{mapOf}
 use Rattle.runs.specs.Bytes.{runsOf, mapSize, soundMapBytes, mapBytes}
-use Rattle.path.specs.Restart.{restartAnswer}
+use Rattle.restart.specs.Restart.{restartAnswer}
 use Rattle.promises.specs.Among.{Among}
 use Rattle.promises.specs.Run.{Piece, ageOf, Covers, byteOf, placeOf, Map, lost, live, Stripe, EmptyLog, begin, Step, after, noted, Write, accepted}
 

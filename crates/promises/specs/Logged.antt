@@ -14,7 +14,7 @@ use Rattle.runs.specs.Map.{raise}
 use Rattle.runs.specs.Bytes.{runLayout, runsOf, runsEnd, soundMapBytes, soundLogBytes, mapBytes}
 use Rattle.stripe.specs.declared.Extent.{Extent}
 use Rattle.stripe.specs.Piece.{place}
-use Rattle.path.specs.Note.{Notes}
+use Rattle.note.specs.Note.{Notes}
 
 -- The log l becomes l′ by the entry r, whose bytes stand where the entries of l end
 pub record Appends (l : List ℕ) (r : Run) (l′ : List ℕ) : Type 0 where

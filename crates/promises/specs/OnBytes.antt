@@ -15,8 +15,8 @@ use Rattle.runs.specs.Bytes.{runsOf}
 use Rattle.serve.specs.declared.Answer.{Answer}
 use Rattle.gilboreth.specs.Messages.{Serves}
 use Rattle.stripe.specs.Piece.{piece, extentOf}
-use Rattle.path.specs.Note.{noteAnswer}
-use Rattle.path.specs.Write.{writeAnswer}
+use Rattle.note.specs.Note.{noteAnswer}
+use Rattle.write.specs.Write.{writeAnswer}
 use Rattle.promises.specs.Run as run
 use Rattle.promises.specs.Run.{Map, lost, live, Stripe, EmptyLog, begin, Step, next}
 use Rattle.promises.specs.Examples.{Call, noting, writing, Row, sending, calling, dots, examples}

@@ -12,9 +12,9 @@ use Rattle.runs.specs.Bytes.{runsOf, runsEnd, mapSize, logSize}
 use Rattle.runs.specs.Owner as runs
 pub use Rattle.stripe.specs.Piece.{Piece, extentOf, placeOf}
 use Rattle.stripe.specs.Stripe.{written}
-use Rattle.path.specs.Note.{noteAnswer, noteMap, noteLog}
-use Rattle.path.specs.Write.{writeAnswer, writeImage}
-use Rattle.path.specs.Restart.{restartAnswer, restartMap}
+use Rattle.note.specs.Note.{noteAnswer, noteMap, noteLog}
+use Rattle.write.specs.Write.{writeAnswer, writeImage}
+use Rattle.restart.specs.Restart.{restartAnswer, restartMap}
 
 -- By what pieces are judged
 abbrev pub ageOf : Piece → ℕ

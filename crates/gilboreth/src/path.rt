@@ -1,0 +1,49 @@
+// The note-and-write path of one stripe: note, write, restart.
+use common::Number;
+use stripe::Extent;
+ghost use Rattle.stripe.specs.Piece.{extent, piece};
+ghost use Rattle.note.specs.Note.{Notes};
+ghost use Rattle.write.specs.Write.{Writes};
+ghost use Rattle.restart.specs.Restart.{Restarts};
+
+// Notes a piece: appends its entry to the log, and raises the map by it.
+#[no_mangle]
+pub extern "C" fn gil_note(
+    map: &mut [u8],
+    log: &mut [u8],
+    first: u64,
+    len: u64,
+    number: u64,
+    image: u64,
+) -> u64
+    ensures { λ r. ⌜ Notes (now (map .entry)) (now (log .entry)) (extent first len number) image r (now (map .exit)) (now (log .exit)) ⌝ }
+{
+    let e = Extent {
+        first,
+        len,
+        number: Number(number),
+    };
+    note::note(map, log, e, image)
+}
+
+// Stores the piece's bytes in the image where the map has the piece's number, and answers the refusal or 0.
+#[no_mangle]
+pub extern "C" fn gil_write(
+    map: &[u8],
+    image: &mut [u8],
+    first: u64,
+    bytes: &[u8],
+    number: u64,
+) -> u64
+    ensures { λ r. ⌜ Writes (now (map .entry)) (piece first (now (bytes .entry)) number) (now (image .entry)) r (now (image .exit)) ⌝ }
+{
+    write::write(map, image, first, bytes, Number(number))
+}
+
+// Fills the map with the log's map.
+#[no_mangle]
+pub extern "C" fn gil_restart(map: &mut [u8], log: &[u8]) -> u64
+    ensures { λ r. ⌜ Restarts (now (map .entry)) (now (log .entry)) r (now (map .exit)) ⌝ }
+{
+    restart::restart(map, log)
+}

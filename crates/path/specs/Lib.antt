@@ -1,4 +1,0 @@
-pub mod Note
-pub mod Early
-pub mod Write
-pub mod Restart

@@ -1,0 +1,40 @@
+-- `refusal`: each return is a law of the rules, which the tests passed meet.
+use borrow.Author.Needs.{needs}
+use denote.Ref.{now}
+use Rattle.write.proofs.Rules.{write-12, write-14, write-15, write-asks, write-18, write-0}
+use Rattle.write.proofs.refusal.Statement.{statement}
+use Rattle.write.proofs.refusal.Tie as tie
+
+is-behind-requires : tie.Need-is-behind-requires
+is-behind-requires c κs =
+    let n = c .before in
+    let p = n .before .before in
+    let m = p .before .before in
+    let a = m .before .before .before .args in
+    rw (c .age-of .ensures)
+    (write-asks (now (a .map)) (a .e) (a .image) _ (m .before .map-sound .ensures) (m .if1 .left) _ (p .before .is-misplaced .ensures) (p .if2 .left) _ (n .before .is-misnumbered .ensures) (n .if3 .left))
+
+returns-4 : tie.Need-returns-4
+returns-4 c =
+    let n = c .before .before .before in
+    let p = n .before .before in
+    let m = p .before .before in
+    write-18 _ _ _ _ (m .before .map-sound .ensures) (m .if1 .left) _ (p .before .is-misplaced .ensures) (p .if2 .left) _ (n .before .is-misnumbered .ensures) (n .if3 .left)
+    _ (rw (c .before .before .age-of .ensures) at (c .before .is-behind .ensures)) (c .if4 .taken)
+
+returns-5 : tie.Need-returns-5
+returns-5 c =
+    let n = c .before .before .before in
+    let p = n .before .before in
+    let m = p .before .before in
+    write-0 _ _ _ _ (m .before .map-sound .ensures) (m .if1 .left) _ (p .before .is-misplaced .ensures) (p .if2 .left) _ (n .before .is-misnumbered .ensures) (n .if3 .left)
+    _ (rw (c .before .before .age-of .ensures) at (c .before .is-behind .ensures)) (c .if4 .left)
+
+-- a line for each test
+pub refusal-spec : {M : Type 1} → statement M
+refusal-spec =
+    tie.close
+    (tie.spec (search needs) (λ c. search write-12)
+    (search needs) (λ c. search write-14)
+    (search needs) (λ c. search write-15)
+    (search needs) is-behind-requires returns-4 returns-5)
