@@ -1,9 +1,4 @@
 pub mod Steps
 pub mod Letters
 pub mod Keeping
-pub mod Decimal
-pub mod Writing
-pub mod Events
-pub mod RoundTrip
-pub mod Only
 pub mod Pieces

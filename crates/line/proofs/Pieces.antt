@@ -1,19 +1,15 @@
 -- Piece after piece gives the lines of the whole input: a cut may fall anywhere, within a line or within its break.
 use Prim.Native.Nat.{ℕ, _+_, _<_}
 use Prim.Native.Char.{code}
-use mathlib.Core.Path.{_≡_, refl, ap, _∙_}
+use mathlib.Core.Path.{_≡_, refl, ap}
 use mathlib.Core.Bool.{Bool, true, false, cond}
-use mathlib.Core.List.{List, [], _∷_, _++_, map, map-append, append-assoc, append-nil}
+use mathlib.Core.List.{List, [], _∷_, _++_, append-nil}
 use native.Mathlib.Numerals.{add-one}
 use lib.Dec.{eqb}
 use lib.ListN.{length, getD, take}
 use lib.Seq.{take-suc}
 use borrow.Author.Tests.{ne-eqb}
-use Rattle.table.specs.Table.{Table}
-use Rattle.line.specs.declared.Read.{Read}
-use Rattle.line.specs.Format.{readLine}
 use Rattle.line.specs.Lines.{bare, linesFrom, linesIn, left}
-use Rattle.line.specs.Session.{next, answers, tableAfter, writtenFrom, saidIn}
 use Rattle.line.specs.Buffers.{Keeps, Gathered}
 
 -- the lines of s and t are those that end in s, and then those of t behind what s leaves
@@ -92,22 +88,3 @@ module _ (p s : List ℕ) (i : ℕ) (h : i < length s) {q : List ℕ} (w : Withi
         ends = rw (add-one, take-suc s i 0 h, lines-join p (take i s) (getD s i 0 ∷ []), e, w .none);
         rest = rw (add-one, take-suc s i 0 h, left-join p (take i s) (getD s i 0 ∷ []), e);
       }
-
--- what is answered to some lines and then to others
-pub answers-join : (t : Table) (rs qs : List Read) → answers t (rs ++ qs) ≡ answers t rs ++ answers (tableAfter t rs) qs
-answers-join t [] qs = refl
-answers-join t (r ∷ rs) qs = rw (append-assoc, answers-join (next t r) rs qs)
-
-pub table-join : (t : Table) (rs qs : List Read) → tableAfter t (rs ++ qs) ≡ tableAfter (tableAfter t rs) qs
-table-join t [] qs = refl
-table-join t (r ∷ rs) qs = table-join (next t r) rs qs
-
--- what is written for s and t: the answers to the lines that end in s, and what is written for t behind what s leaves
-pub written-cut : (x : Table) (p s t : List ℕ) → writtenFrom x p (s ++ t) ≡ answers x (saidIn p s) ++ writtenFrom (tableAfter x (saidIn p s)) (left p s) t
-written-cut x p s t =
-    ap (λ ls. answers x (map readLine ls)) (lines-cut p s t)
-    ∙ ap (answers x) (map-append readLine (linesIn p s) (linesFrom (left p s) t))
-    ∙ answers-join x (saidIn p s) (map readLine (linesFrom (left p s) t))
-
-pub said-join : (p s t : List ℕ) → saidIn p (s ++ t) ≡ saidIn p s ++ saidIn (left p s) t
-said-join p s t = ap (λ ls. map readLine ls) (lines-join p s t) ∙ map-append readLine (linesIn p s) (linesIn (left p s) t)

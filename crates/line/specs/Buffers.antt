@@ -1,14 +1,10 @@
--- What the code's places in byte buffers mean.
+-- What the code's places in a line and in its buffer mean.
 use Prim.Native.Nat.{ℕ, _+_, _≤_, _<_}
 use mathlib.Core.Path.{_≡_}
 use mathlib.Core.Bool.{Bool, cond}
 use mathlib.Core.List.{List, [], _∷_, _++_}
 use mathlib.Core.Logic.{_⊎_}
 use lib.ListN.{length, take, drop}
-use Rattle.common.specs.Counters.{width}
-use Rattle.xdr.specs.Layout.{fields}
-use Rattle.xdr.specs.Tab.{tab}
-use Rattle.locks.specs.Events.{eventLayout, eventPlace}
 use Rattle.line.specs.declared.Spot.{Spot}
 use Rattle.line.specs.declared.Read.{Read}
 use Rattle.line.specs.declared.Scan.{Scan}
@@ -45,17 +41,3 @@ pub record Gathers (s before : List ℕ) (n : ℕ) (after : List ℕ) (r : Scan)
   pub onward : 0 < length s → 0 < r .at
   pub room : r .kept ≤ length before
   pub gathered : (p : List ℕ) → Keeps (take n before) p → Gathered p (take (r .at) s) (take (r .kept) after) (r .whole)
-
--- A text of at most `most` bytes is put at `at`, behind what stands in front of it, and r is the place after it
-pub record Wrote (most : ℕ) (before after : List ℕ) (at r : ℕ) (text : List ℕ) : Type 0 where
-  pub next : r ≡ at + length text
-  pub short : length text ≤ most
-  pub says : take r after ≡ take at before ++ text
-  pub size : length after ≡ length before
-
--- The numbers of event k of an event buffer; those of its first n events
-abbrev pub eventAt : List ℕ → ℕ → List ℕ
-eventAt b k = fields (eventLayout width) b (eventPlace k) 0
-
-abbrev pub eventsIn : List ℕ → ℕ → List (List ℕ)
-eventsIn b n = tab n (eventAt b)

@@ -1,6 +1,7 @@
 -- "The line program": what one line says. `R,client,stripe,mode,first,last`, `A,client,handle`, `D,client,handle`, `F,client,handle`.
 use Prim.Native.Nat.{ℕ, zero, suc, _+_, _*_, _-_}
 use Prim.Native.Char.{code}
+use Prim.Native.String.{String, [] as nothing, _∷_ as _then_}
 use mathlib.Core.Bool.{Bool, true, false, cond, _&&_}
 use mathlib.Core.List.{List, [], _∷_}
 use lib.ListN.{length, getD}
@@ -10,6 +11,11 @@ use Rattle.locks.specs.declared.Message.{Message}
 use Rattle.locks.specs.declared.Message.the-variants.{Request, Acknowledge, Downgrade, Release}
 use Rattle.line.specs.declared.Read.{Read}
 use Rattle.line.specs.declared.Read.the-variants.{Bad, Good}
+
+-- A text in bytes
+abbrev pub bytes : String → List ℕ
+bytes nothing = []
+bytes (c then s) = code c ∷ bytes s
 
 -- How far a line is read: whether all is right so far, the last number, and the bytes after it
 pub record Reading : Type 0 where

@@ -10,10 +10,11 @@ use Rattle.table.specs.Table.{Table}
 use Rattle.table.specs.Bytes.{tableOf}
 use Rattle.line.specs.Lines.{linesIn, left}
 use Rattle.line.specs.Buffers.{Keeps}
-use Rattle.line.specs.Session.{tableAfter, saidIn}
-use Rattle.line.proofs.Pieces.{left-join, said-join, table-join}
-use Rattle.lockline.specs.declared.Fed.{Fed}
-use Rattle.lockline.specs.Program.{Takes, Feeds}
+use Rattle.session.specs.Session.{tableAfter, saidIn}
+use Rattle.line.proofs.Pieces.{left-join}
+use Rattle.session.proofs.Joining.{said-join, table-join}
+use Rattle.session.specs.declared.Fed.{Fed}
+use Rattle.session.specs.Buffers.{Takes, Feeds}
 
 pub takes-none : (t p : List ℕ) {line : List ℕ} {n : ℕ} → Keeps (take n line) p → Takes (tableOf width t) p [] line n t
 unfolding linesIn left

@@ -2,105 +2,16 @@
 use gilboreth::messages::EVENTS_BYTES;
 use libc::STDIN_FILENO;
 use libc::STDOUT_FILENO;
-use line::Read;
-use locks::Message;
-use serve::Answer;
 use table::MAX_RECORDS;
 use table::TABLE_BYTES;
-ghost use Rattle.gilboreth.specs.Messages.{Serves};
-ghost use Rattle.lockline.specs.Program.{Lent, Ready, Answers, Feeds, Ends, Pours};
+ghost use Rattle.session.specs.Buffers.{Ready};
+ghost use Rattle.lockline.specs.Program.{Pours};
 
 // How much is kept of a line: 128 bytes, the CR of its break, and one byte more that tells a line that is too long.
 const LINE_BYTES: usize = 130;
 
 // How many bytes the lines of an answer have at most: 45, and 171 for each of 256 events.
 const OUT_BYTES: usize = 45 + 171 * MAX_RECORDS;
-
-// Serves a message through the entry that C gets.
-fn call(table: &mut [u8], events: &mut [u8], m: Message) -> Answer
-    ensures { λ r. ⌜ Serves m (now (table .entry)) (now (events .entry)) r (now (table .exit)) (now (events .exit)) ⌝ }
-{
-    match m {
-        Message::Request {
-            client,
-            stripe,
-            mode,
-            first,
-            last,
-        } => gilboreth::messages::gil_request(table, events, client, stripe, mode, first, last),
-        Message::Acknowledge { client, handle } => {
-            gilboreth::messages::gil_acknowledge(table, events, client, handle)
-        }
-        Message::Downgrade { client, handle } => {
-            gilboreth::messages::gil_downgrade(table, events, client, handle)
-        }
-        Message::Release { client, handle } => {
-            gilboreth::messages::gil_release(table, events, client, handle)
-        }
-    }
-}
-
-// Puts the answer to what a line says, and answers how many bytes it has.
-fn answer(table: &mut [u8], events: &mut [u8], out: &mut [u8], r: Read) -> usize
-    requires { ⌜ Lent (now table) (now events) (now out) ⌝ }
-    ensures { λ k. ⌜ Answers r (now (table .entry)) k (now (table .exit)) (now (events .exit)) (now (out .exit)) ⌝ }
-{
-    match r {
-        Read::Bad => line::put_bad(out),
-        Read::Good(m) => {
-            let a = call(table, events, m);
-            line::put_outcome(out, a.refusal, a.handle, events, a.events as usize)
-        }
-    }
-}
-
-// What feeding took of a piece, how much of a line is kept, and how many bytes are to be written.
-struct Fed {
-    at: usize,
-    kept: usize,
-    said: usize,
-}
-
-// Takes the bytes of a piece up to the end of a line and answers the line, or takes them all.
-fn feed(
-    piece: &[u8],
-    line: &mut [u8],
-    kept: usize,
-    table: &mut [u8],
-    events: &mut [u8],
-    out: &mut [u8],
-) -> Fed
-    requires { ⌜ Ready (now line) kept (now table) (now events) (now out) ⌝ }
-    ensures { λ r. ⌜ Feeds (now (piece .entry)) (now (line .entry)) kept (now (table .entry)) r (now (line .exit)) (now (table .exit)) (now (events .exit)) (now (out .exit)) ⌝ }
-{
-    let g = line::gather(piece, line, kept);
-    if !g.whole {
-        return Fed {
-            at: g.at,
-            kept: g.kept,
-            said: 0,
-        };
-    }
-    let r = line::said(line, g.kept, false);
-    let said = answer(table, events, out, r);
-    Fed {
-        at: g.at,
-        kept: 0,
-        said: said,
-    }
-}
-
-// Answers the last line, if it lacks its break.
-fn end(line: &[u8], kept: usize, table: &mut [u8], events: &mut [u8], out: &mut [u8]) -> usize
-    requires { ⌜ Ready (now line) kept (now table) (now events) (now out) ⌝ }
-    ensures { λ k. ⌜ Ends (now (line .entry)) kept (now (table .entry)) k (now (out .exit)) ⌝ }
-{
-    if kept == 0 {
-        return 0;
-    }
-    let r = line::said(line, kept, true);
-    answer(table, events, out, r)
-}
 
 // How much of a line is kept, and whether there may be more input.
 struct Turn {
@@ -123,7 +34,7 @@ fn pour(
     let mut at = 0;
     let mut n = kept;
     while at < piece.len() {
-        let f = feed(&piece[at..], line, n, table, events, out);
+        let f = session::feed(&piece[at..], line, n, table, events, out);
         let said = f.said;
         if !io::write_all(STDOUT_FILENO, &out[..said]) {
             return Turn {
@@ -188,6 +99,6 @@ fn main() {
     let mut events = [0u8; EVENTS_BYTES];
     let mut out = [0u8; OUT_BYTES];
     let kept = read_all(&mut line, &mut table, &mut events, &mut out);
-    let said = end(&line, kept, &mut table, &mut events, &mut out);
+    let said = session::end(&line, kept, &mut table, &mut events, &mut out);
     io::write_all(STDOUT_FILENO, &out[..said]);
 }

@@ -2,7 +2,7 @@
 use mathlib.Core.Path.{sym}
 use borrow.Author.Needs.{needs}
 use lib.Seq.{length-take-le}
-use Rattle.lockline.proofs.Starting.{started}
+use Rattle.session.proofs.Starting.{started}
 use Rattle.lockline.proofs.main.Statement.{statement}
 use Rattle.lockline.proofs.main.Tie as tie
 

@@ -10,7 +10,7 @@ use Rattle.common.specs.Counters.{width}
 use Rattle.common.proofs.Bools.{never}
 use Rattle.table.specs.Bytes.{tableOf}
 use Rattle.line.specs.Buffers.{Keeps}
-use Rattle.lockline.specs.Program.{Ready, Takes}
+use Rattle.session.specs.Buffers.{Ready, Takes}
 use Rattle.lockline.proofs.Pouring.{takes-none, fed-within, fed-onward, fed-more}
 use Rattle.lockline.proofs.pour.Statement.{statement}
 use Rattle.lockline.proofs.pour.Tie as tie

@@ -2,7 +2,7 @@
 use native.Mathlib.Omega.{arith}
 use mathlib.Core.Path.{_≡_, refl, _∙_}
 use lib.ListN.{length}
-use Rattle.lockline.specs.Program.{Ready}
+use Rattle.session.specs.Buffers.{Ready}
 use Rattle.lockline.proofs.read_all.Statement.{statement}
 use Rattle.lockline.proofs.read_all.Tie as tie
 

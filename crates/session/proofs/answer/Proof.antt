@@ -1,0 +1,34 @@
+-- `answer`: the entry's events stand in the event buffer, and the lines of the answer are put from there.
+use mathlib.Core.Path.{refl}
+use native.Mathlib.Omega.{arith}
+use borrow.Author.Needs.{needs}
+use Rattle.session.proofs.Serving.{counted, answered-good, answered-bad}
+use Rattle.session.proofs.answer.Statement.{statement}
+use Rattle.session.proofs.answer.Tie as tie
+
+put-bad-requires : tie.Need-put-bad-requires
+put-bad-requires c κs = search needs
+
+put-outcome-requires : tie.Need-put-outcome-requires
+put-outcome-requires c κs =
+    let e = c .before .before .before .before .before .before in
+    let l = e .before .before .before .before .before .before .before .before .before .pre in
+    let n = counted _ _ _ (l .sound) (l .event-room) (e .call .ensures) in
+    let z = e .call .kept .1 .0 in
+    (omega (arith, l .text-room), omega (arith, l .event-room))
+
+bad : tie.Need-returns
+bad c = rw (c .before .before .before .before .enum-told .given .1) (answered-bad (c .before .before .before .before .before .before .before .before .before .pre) (c .before .before .put-bad .ensures))
+
+good : tie.Need-returns-2
+good c =
+    let e = c .before .before .before .before .before .before .before .before .before in
+    let l = e .before .before .before .before .before .before .before .before .before .pre in
+    rw (e .before .before .before .before .r .given .1)
+    (answered-good _ _ _ (l .sound) (l .event-room) (e .call .ensures) l refl (e .call .kept .1 .0) (c .before .before .put-outcome .ensures))
+
+pub answer-spec : {M : Type 1} → statement M
+answer-spec =
+    tie.close
+    (tie.spec (λ c. search needs) put-bad-requires (λ c. search needs) (λ c κs. search needs) put-outcome-requires (λ c. search needs) bad
+    (λ c. search needs) (λ c. search needs) (λ c. search needs) good)

@@ -1,0 +1,4 @@
+pub mod Session
+pub mod Buffers
+pub mod Run
+pub mod Examples

@@ -1,0 +1,5 @@
+pub mod Decimal
+pub mod Writing
+pub mod Events
+pub mod RoundTrip
+pub mod Only
