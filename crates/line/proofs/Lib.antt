@@ -1,4 +1,2 @@
 pub mod Steps
 pub mod Letters
-pub mod Keeping
-pub mod Pieces

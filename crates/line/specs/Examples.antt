@@ -1,10 +1,9 @@
--- Lines of each kind, and breaks.
+-- Lines of each kind.
 use mathlib.Core.Path.{_≡_, refl}
 use mathlib.Core.List.{[], _∷_, map}
 use Rattle.locks.specs.declared.Message.the-variants.{Request, Acknowledge, Downgrade, Release}
 use Rattle.line.specs.declared.Read.the-variants.{Bad, Good}
 use Rattle.line.specs.Format.{bytes, readDigits, readNumber, readField, readFields, byLetter, readLine}
-use Rattle.line.specs.Lines.{linesFrom}
 
 -- "no leading zeros except 0 itself, at most 2^64 - 1"; fields too few, too many, empty; another letter; a CR that is no part of a break
 pub lines-say :
@@ -15,7 +14,3 @@ pub lines-say :
     ∷ Bad ∷ Bad ∷ Bad ∷ Bad ∷ Bad ∷ Bad ∷ Bad ∷ Bad ∷ Bad ∷ []
 unfolding readDigits readNumber readField readFields byLetter readLine
 lines-say = refl
-
-pub lines-end : linesFrom [] (bytes "a\r\n\nb\rc\r\r\nd\r") ≡ bytes "a" ∷ [] ∷ bytes "b\rc\r" ∷ bytes "d\r" ∷ []
-unfolding linesFrom
-lines-end = refl

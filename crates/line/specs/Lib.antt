@@ -1,4 +1,3 @@
 pub mod Format
-pub mod Lines
-pub mod Buffers
+pub mod Spots
 pub mod Examples

@@ -1,10 +1,10 @@
-// Reads lines: gathers them from pieces of the input, and tells what each says.
+// Reads a line: tells what it says, a message or nothing.
 use locks::Message;
 ghost use mathlib.Core.Path.{_≡_};
-ghost use Prim.Native.Nat.{_+_, _≤_};
-ghost use lib.ListN.{length, drop};
-ghost use Rattle.line.specs.Format.{wrong, digitOf, readDigits, readNumber, readField, ended, longest, readLine};
-ghost use Rattle.line.specs.Buffers.{reading, Keeping, Saying, Gathers};
+ghost use Prim.Native.Nat.{_≤_};
+ghost use lib.ListN.{drop};
+ghost use Rattle.line.specs.Format.{wrong, digitOf, readDigits, readNumber, readField, ended, readLine};
+ghost use Rattle.line.specs.Spots.{reading};
 
 // What a line says.
 pub enum Read {
@@ -157,67 +157,4 @@ pub fn read_line(s: &[u8]) -> Read
         }
         0..=64 | 66..=67 | 69 | 71..=81 | 83..=255 => Read::Bad,
     }
-}
-
-// Keeps one byte more of a line, as long as there is room.
-pub fn keep(line: &mut [u8], n: usize, b: u8) -> usize
-    requires { ⌜ (longest + 2 ≤ length (now line)) × (n ≤ length (now line)) ⌝ }
-    ensures { λ r. ⌜ Keeping b (now (line .entry)) n (now (line .exit)) r ⌝ }
-{
-    if n < line.len() {
-        line[n] = b;
-        return n + 1;
-    }
-    n
-}
-
-// Where gathering a line stands: how many bytes of the piece it took, how many of the line are kept, and whether the line's break was met.
-pub struct Scan {
-    pub at: usize,
-    pub kept: usize,
-    pub whole: bool,
-}
-
-// Gathers the bytes of a piece up to the end of a line, or all of them. The first `kept` bytes of `line` are kept already.
-pub fn gather(piece: &[u8], line: &mut [u8], kept: usize) -> Scan
-    requires { ⌜ (longest + 2 ≤ length (now line)) × (kept ≤ length (now line)) ⌝ }
-    ensures { λ r. ⌜ Gathers (now (piece .entry)) (now (line .entry)) kept (now (line .exit)) r ⌝ }
-{
-    let mut i = 0;
-    let mut n = kept;
-    while i < piece.len() {
-        let b = piece[i];
-        i += 1;
-        if b == b'\n' {
-            return Scan {
-                at: i,
-                kept: n,
-                whole: true,
-            };
-        }
-        n = keep(line, n, b);
-    }
-    Scan {
-        at: i,
-        kept: n,
-        whole: false,
-    }
-}
-
-// Reads the line of which n bytes are kept; `last` says that it lacks its break.
-pub fn said(line: &[u8], n: usize, last: bool) -> Read
-    requires { ⌜ n ≤ length (now line) ⌝ }
-    ensures { λ r. ⌜ Saying last (now (line .entry)) n r ⌝ }
-{
-    if last {
-        return read_line(&line[..n]);
-    }
-    if n == 0 {
-        return Read::Bad;
-    }
-    let end = n - 1;
-    if line[end] == b'\r' {
-        return read_line(&line[..end]);
-    }
-    read_line(&line[..n])
 }

@@ -8,10 +8,10 @@ use lib.Seq.{take-take, take-add}
 use Rattle.common.specs.Counters.{width}
 use Rattle.table.specs.Table.{Table}
 use Rattle.table.specs.Bytes.{tableOf}
-use Rattle.line.specs.Lines.{linesIn, left}
-use Rattle.line.specs.Buffers.{Keeps}
+use Rattle.lines.specs.Lines.{linesIn, left}
+use Rattle.lines.specs.Buffers.{Keeps}
 use Rattle.session.specs.Session.{tableAfter, saidIn}
-use Rattle.line.proofs.Pieces.{left-join}
+use Rattle.lines.proofs.Pieces.{left-join}
 use Rattle.session.proofs.Joining.{said-join, table-join}
 use Rattle.session.specs.declared.Fed.{Fed}
 use Rattle.session.specs.Buffers.{Takes, Feeds}

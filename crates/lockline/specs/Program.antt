@@ -6,7 +6,7 @@ use mathlib.Core.List.{List}
 use lib.ListN.{take}
 use Rattle.common.specs.Counters.{width}
 use Rattle.table.specs.Bytes.{tableOf}
-use Rattle.line.specs.Buffers.{Keeps}
+use Rattle.lines.specs.Buffers.{Keeps}
 use Rattle.session.specs.Buffers.{Ready, Takes}
 use Rattle.lockline.specs.declared.Turn.{Turn}
 

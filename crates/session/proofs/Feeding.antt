@@ -11,10 +11,10 @@ use borrow.Author.Tests.{ne-eqb}
 use Rattle.common.specs.Counters.{width}
 use Rattle.table.specs.Bytes.{tableOf}
 use Rattle.line.specs.declared.Read.{Read}
-use Rattle.line.specs.declared.Scan.{Scan}
+use Rattle.lines.specs.declared.Scan.{Scan}
 use Rattle.line.specs.Format.{readLine}
-use Rattle.line.specs.Lines.{linesFrom}
-use Rattle.line.specs.Buffers.{Keeps, Saying, Gathered, Gathers}
+use Rattle.lines.specs.Lines.{linesFrom}
+use Rattle.lines.specs.Buffers.{Keeps, Saying, Gathered, Gathers}
 use Rattle.session.specs.Session.{answer, answers, tableAfter, writtenFrom, saidIn}
 use Rattle.session.specs.Buffers.{Ready, Answers, Feeds, Ends}
 

@@ -5,8 +5,8 @@ use mathlib.Core.List.{List, [], _∷_, _++_, map, map-append, append-assoc}
 use Rattle.table.specs.Table.{Table}
 use Rattle.line.specs.declared.Read.{Read}
 use Rattle.line.specs.Format.{readLine}
-use Rattle.line.specs.Lines.{linesFrom, linesIn, left}
-use Rattle.line.proofs.Pieces.{lines-cut, lines-join}
+use Rattle.lines.specs.Lines.{linesFrom, linesIn, left}
+use Rattle.lines.proofs.Pieces.{lines-cut, lines-join}
 use Rattle.session.specs.Session.{next, answers, tableAfter, writtenFrom, saidIn}
 
 -- what is answered to some lines and then to others

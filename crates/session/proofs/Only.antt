@@ -8,8 +8,8 @@ use Rattle.common.specs.Counters.{width}
 use Rattle.table.specs.Table.{Table}
 use Rattle.table.specs.Bytes.{tableSize, tableOf}
 use Rattle.table.proofs.Zeros.{zeros-empty}
-use Rattle.line.specs.Lines.{left}
-use Rattle.line.specs.Buffers.{Keeps}
+use Rattle.lines.specs.Lines.{left}
+use Rattle.lines.specs.Buffers.{Keeps}
 use Rattle.session.specs.Session.{writtenFrom, written}
 use Rattle.session.proofs.Joining.{written-cut}
 use Rattle.session.specs.Run.{Run, end, read, feed, joined, start}

@@ -20,14 +20,14 @@ use Rattle.promises.proofs.Reached.{buffer, buffer-long}
 use Rattle.promises.proofs.Sessions.{follows}
 use Rattle.line.specs.declared.Read.{Read}
 use Rattle.line.specs.declared.Read.the-variants.{Bad, Good}
-use Rattle.line.specs.declared.Scan.{Scan}
+use Rattle.lines.specs.declared.Scan.{Scan}
 use Rattle.line.specs.Format.{readLine}
 use Rattle.text.specs.Text.{outcomeSize}
-use Rattle.line.specs.Lines.{bare, left}
-use Rattle.line.specs.Buffers.{Keeps, Gathers}
+use Rattle.lines.specs.Lines.{bare, left}
+use Rattle.lines.specs.Buffers.{Keeps, Gathers}
 use Rattle.session.specs.Session.{answer, next}
-use Rattle.line.proofs.Keeping.{keeps-read, keeps-bare, keeps-more, keeps-full}
-use Rattle.line.proofs.Pieces.{within-none, within-byte, within-break, within-all}
+use Rattle.lines.proofs.Keeping.{keeps-read, keeps-bare, keeps-more, keeps-full}
+use Rattle.lines.proofs.Pieces.{within-none, within-byte, within-break, within-all}
 use Rattle.session.specs.Buffers.{Ready, Answers, Feeds}
 use Rattle.session.specs.Run.{Run, end, read, feed}
 use Rattle.session.proofs.Feeding.{fed-part, fed-line, ended-none, ended-last}

@@ -11,8 +11,8 @@ use Rattle.locks.specs.Events.{eventsSize}
 use Rattle.line.specs.declared.Read.{Read}
 use Rattle.line.specs.Format.{longest}
 use Rattle.text.specs.Text.{outcomeSize}
-use Rattle.line.specs.Lines.{left}
-use Rattle.line.specs.Buffers.{Keeps}
+use Rattle.lines.specs.Lines.{left}
+use Rattle.lines.specs.Buffers.{Keeps}
 use Rattle.session.specs.Session.{answer, next, answers, tableAfter, writtenFrom, saidIn}
 use Rattle.session.specs.declared.Fed.{Fed}
 

@@ -8,7 +8,7 @@ use Rattle.locks.specs.Settle.{settle, turns, turn, grant, widest}
 use Rattle.locks.specs.Refusals.{rules}
 use Rattle.locks.specs.Serve.{serve, change, answered}
 use Rattle.line.specs.Format.{bytes, readDigits, readNumber, readField, readFields, byLetter, readLine}
-use Rattle.line.specs.Lines.{linesFrom}
+use Rattle.lines.specs.Lines.{linesFrom}
 use Rattle.text.specs.Text.{digitsOf, decimal, fieldsText, lineText, eventText, eventsText}
 use Rattle.session.specs.Session.{written}
 

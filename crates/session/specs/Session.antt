@@ -8,7 +8,7 @@ use Rattle.line.specs.declared.Read.{Read}
 use Rattle.line.specs.declared.Read.the-variants.{Bad, Good}
 use Rattle.line.specs.Format.{readLine}
 use Rattle.text.specs.Text.{badText, outcomeText}
-use Rattle.line.specs.Lines.{linesFrom, linesIn}
+use Rattle.lines.specs.Lines.{linesFrom, linesIn}
 
 -- The answer to what a line says, and the table after it
 abbrev pub answer : Table → Read → List ℕ

@@ -62,7 +62,7 @@ pub fn feed(
     requires { ⌜ Ready (now line) kept (now table) (now events) (now out) ⌝ }
     ensures { λ r. ⌜ Feeds (now (piece .entry)) (now (line .entry)) kept (now (table .entry)) r (now (line .exit)) (now (table .exit)) (now (events .exit)) (now (out .exit)) ⌝ }
 {
-    let g = line::gather(piece, line, kept);
+    let g = lines::gather(piece, line, kept);
     if !g.whole {
         return Fed {
             at: g.at,
@@ -70,7 +70,7 @@ pub fn feed(
             said: 0,
         };
     }
-    let r = line::said(line, g.kept, false);
+    let r = lines::said(line, g.kept, false);
     let said = answer(table, events, out, r);
     Fed {
         at: g.at,
@@ -87,6 +87,6 @@ pub fn end(line: &[u8], kept: usize, table: &mut [u8], events: &mut [u8], out: &
     if kept == 0 {
         return 0;
     }
-    let r = line::said(line, kept, true);
+    let r = lines::said(line, kept, true);
     answer(table, events, out, r)
 }

@@ -9,7 +9,7 @@ use lib.Seq.{length-take-le, take-all}
 use Rattle.common.specs.Counters.{width}
 use Rattle.common.proofs.Bools.{never}
 use Rattle.table.specs.Bytes.{tableOf}
-use Rattle.line.specs.Buffers.{Keeps}
+use Rattle.lines.specs.Buffers.{Keeps}
 use Rattle.session.specs.Buffers.{Ready, Takes}
 use Rattle.lockline.proofs.Pouring.{takes-none, fed-within, fed-onward, fed-more}
 use Rattle.lockline.proofs.pour.Statement.{statement}

@@ -5,10 +5,10 @@ use mathlib.Core.List.{List}
 use native.Mathlib.Omega.{arith}
 use borrow.Author.Needs.{needs}
 use lib.ListN.{length, take}
-use Rattle.line.specs.Buffers.{Keeps}
-use Rattle.line.proofs.Pieces.{Within, within-none, within-all, within-byte, within-break}
-use Rattle.line.proofs.gather.Statement.{statement}
-use Rattle.line.proofs.gather.Tie as tie
+use Rattle.lines.specs.Buffers.{Keeps}
+use Rattle.lines.proofs.Pieces.{Within, within-none, within-all, within-byte, within-break}
+use Rattle.lines.proofs.gather.Statement.{statement}
+use Rattle.lines.proofs.gather.Tie as tie
 
 abbrev Inv-loop : tie.InvT-loop
 Inv-loop piece line₀ kept i₀ n₀ line i n =

@@ -1,19 +1,14 @@
--- What the code's places in a line and in its buffer mean.
+-- What is kept of a line in its buffer.
 use Prim.Native.Nat.{ℕ, _+_, _≤_, _<_}
 use mathlib.Core.Path.{_≡_}
 use mathlib.Core.Bool.{Bool, cond}
 use mathlib.Core.List.{List, [], _∷_, _++_}
 use mathlib.Core.Logic.{_⊎_}
-use lib.ListN.{length, take, drop}
-use Rattle.line.specs.declared.Spot.{Spot}
+use lib.ListN.{length, take}
 use Rattle.line.specs.declared.Read.{Read}
-use Rattle.line.specs.declared.Scan.{Scan}
-use Rattle.line.specs.Format.{Reading, longest, readLine}
-use Rattle.line.specs.Lines.{bare, linesIn, left}
-
--- What a spot says of the line s
-abbrev pub reading : List ℕ → Spot → Reading
-reading s p = record { ok = p .ok; value = p .value; rest = drop (p .at) s }
+use Rattle.lines.specs.declared.Scan.{Scan}
+use Rattle.line.specs.Format.{longest, readLine}
+use Rattle.lines.specs.Lines.{bare, linesIn, left}
 
 -- The bytes q are kept of the line p: all of it, or enough to know that it is too long, even without the CR of its break
 abbrev pub Keeps : List ℕ → List ℕ → Type 0

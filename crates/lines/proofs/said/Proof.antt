@@ -3,10 +3,10 @@ use mathlib.Core.Path.{ap, _∙_}
 use native.Mathlib.Omega.{arith}
 use borrow.Author.Needs.{needs}
 use lib.ListN.{length-take}
 use Rattle.line.specs.Format.{readLine}
-use Rattle.line.proofs.Keeping.{keeps-read, keeps-bare, bare-cr, bare-other, bare-none}
-use Rattle.line.proofs.said.Statement.{statement}
-use Rattle.line.proofs.said.Tie as tie
+use Rattle.lines.proofs.Keeping.{keeps-read, keeps-bare, bare-cr, bare-other, bare-none}
+use Rattle.lines.proofs.said.Statement.{statement}
+use Rattle.lines.proofs.said.Tie as tie
 
 returns : tie.Need-returns
 returns c = λ p k. rw (c .before .before .if1 .taken) (c .read-line .ensures ∙ keeps-read _ p k)

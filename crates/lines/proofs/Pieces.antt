@@ -9,8 +9,8 @@ use lib.Dec.{eqb}
 use lib.ListN.{length, getD, take}
 use lib.Seq.{take-suc}
 use borrow.Author.Tests.{ne-eqb}
-use Rattle.line.specs.Lines.{bare, linesFrom, linesIn, left}
-use Rattle.line.specs.Buffers.{Keeps, Gathered}
+use Rattle.lines.specs.Lines.{bare, linesFrom, linesIn, left}
+use Rattle.lines.specs.Buffers.{Keeps, Gathered}
 
 -- the lines of s and t are those that end in s, and then those of t behind what s leaves
 pub lines-cut : (p s t : List ℕ) → linesFrom p (s ++ t) ≡ linesIn p s ++ linesFrom (left p s) t

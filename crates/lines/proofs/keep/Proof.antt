@@ -1,9 +1,9 @@
 -- `keep`: a byte that finds no room comes behind 130 others.
 use native.Mathlib.Omega.{arith}
 use borrow.Author.Needs.{needs}
-use Rattle.line.proofs.Keeping.{keeps-more, keeps-full}
-use Rattle.line.proofs.keep.Statement.{statement}
-use Rattle.line.proofs.keep.Tie as tie
+use Rattle.lines.proofs.Keeping.{keeps-more, keeps-full}
+use Rattle.lines.proofs.keep.Statement.{statement}
+use Rattle.lines.proofs.keep.Tie as tie
 
 returns : tie.Need-returns
 returns c = let a = c .before .args in record { room = omega arith; keeps = keeps-more (a .line .now) (a .n) (a .b) (omega arith) }

@@ -11,11 +11,11 @@ use lib.Dec.{eqb}
 use lib.ListN.{length, getD, take, set, length-append, length-take, length-set}
 use lib.Seq.{length-take-le, take-suc-set, take-take, getD-take}
 use borrow.Author.Tests.{ne-eqb}
 use Rattle.line.specs.declared.Read.the-variants.{Bad}
 use Rattle.line.specs.Format.{longest, readLine}
-use Rattle.line.specs.Lines.{bare}
-use Rattle.line.specs.Buffers.{Keeps}
+use Rattle.lines.specs.Lines.{bare}
+use Rattle.lines.specs.Buffers.{Keeps}
 use Rattle.line.proofs.Letters.{line-long, line-blank}
 
 length-bare : (p : List ℕ) → length p ≤ length (bare p) + 1
 length-bare p = go (eqb (getD p (length p - 1) 0) (code "\r"))
