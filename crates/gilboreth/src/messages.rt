@@ -2,23 +2,7 @@
 use locks::Message;
 use serve::Answer;
 ghost use Rattle.locks.specs.declared.Message.the-variants.{Request, Acknowledge, Downgrade, Release};
-ghost use Rattle.gilboreth.specs.Messages.{Serves};
-
-// How many bytes the event buffer has at least.
-pub const EVENTS_BYTES: usize = locks::EVENTS + locks::EVENT_BYTES * table::MAX_RECORDS;
-
-// Serves a message on bytes of which nothing is known.
-fn call(table: &mut [u8], events: &mut [u8], m: Message) -> Answer
-    ensures { λ r. ⌜ Serves m (now (table .entry)) (now (events .entry)) r (now (table .exit)) (now (events .exit)) ⌝ }
-{
-    if events.len() < EVENTS_BYTES {
-        return serve::refused(1);
-    }
-    if !sound::table_sound(table) {
-        return serve::refused(2);
-    }
-    serve::serve(table, events, m)
-}
+ghost use Rattle.message.specs.Messages.{Serves};
 
 // Asks for a lock.
 #[no_mangle]
@@ -40,7 +24,7 @@ pub extern "C" fn gil_request(
         first: first,
         last: last,
     };
-    call(table, events, m)
+    message::call(table, events, m)
 }
 
 // Replies to a revocation.
@@ -57,7 +41,7 @@ pub extern "C" fn gil_acknowledge(
         client: client,
         handle: handle,
     };
-    call(table, events, m)
+    message::call(table, events, m)
 }
 
 // Makes a canceling BW or PW lock an NBW lock.
@@ -74,7 +58,7 @@ pub extern "C" fn gil_downgrade(
         client: client,
         handle: handle,
     };
-    call(table, events, m)
+    message::call(table, events, m)
 }
 
 // Gives a lock back, or withdraws a waiting request.
@@ -91,5 +75,5 @@ pub extern "C" fn gil_release(
         client: client,
         handle: handle,
     };
-    call(table, events, m)
+    message::call(table, events, m)
 }

@@ -1,7 +1,7 @@
 // The line program: reads lines from standard input, serves them on one table, and writes their answers to standard output.
-use gilboreth::messages::EVENTS_BYTES;
 use libc::STDIN_FILENO;
 use libc::STDOUT_FILENO;
+use message::EVENTS_BYTES;
 use table::MAX_RECORDS;
 use table::TABLE_BYTES;
 ghost use Rattle.session.specs.Buffers.{Ready};

@@ -17,7 +17,7 @@ use Rattle.locks.specs.declared.Message.{Message}
 use Rattle.locks.specs.declared.Message.the-variants.{Request, Acknowledge, Downgrade, Release}
 use Rattle.locks.specs.Refusals.{rules}
 use Rattle.locks.specs.Events.{eventsSize}
-use Rattle.gilboreth.specs.Messages.{outcome}
+use Rattle.message.specs.Messages.{outcome}
 use Rattle.stripe.specs.Piece.{extent, piece}
 use Rattle.promises.specs.Demand1.{Entry, request, acknowledge, downgrade, release, note, write, restart, numbers, entryOf}
 use Rattle.promises.specs.Demand1.{Words, fields, Gets, message, noting, writing, restarting, Reached, Demand1}

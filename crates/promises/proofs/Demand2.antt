@@ -32,7 +32,7 @@ use Rattle.locks.proofs.Handles.{session-handles, session-once}
 use Rattle.locks.proofs.Events.{Once, serve-once, handles}
 use Rattle.serve.specs.declared.Answer.{Answer}
 use Rattle.serve.specs.Leaves.{Leaves}
-use Rattle.gilboreth.specs.Messages.{outcome, Serves}
+use Rattle.message.specs.Messages.{outcome, Serves}
 use Rattle.promises.specs.Session.{Session, done, call}
 use Rattle.promises.specs.Demand2.{Called, Goes, Followed, Demand2}
 use Rattle.promises.proofs.Determined.{of-message}

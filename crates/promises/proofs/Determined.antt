@@ -21,7 +21,7 @@ use Rattle.locks.specs.Refusals.{rules}
 use Rattle.locks.specs.Serve.{Outcome, refused}
 use Rattle.locks.specs.Events.{eventsOver}
 use Rattle.serve.specs.declared.Answer.{Answer}
-use Rattle.gilboreth.specs.Messages.{entryRules, outcome, Serves}
+use Rattle.message.specs.Messages.{entryRules, outcome, Serves}
 use Rattle.stripe.specs.declared.Extent.{Extent}
 use Rattle.stripe.specs.Piece.{Piece, extentOf}
 use Rattle.note.specs.Note.{noteAnswer, noteMap, noteLog}

@@ -23,7 +23,7 @@ use Rattle.locks.specs.Refusals.{rules, refusal, named}
 use Rattle.locks.specs.Serve.{Outcome, change, answered, accepted, refused, serve}
 use Rattle.locks.specs.Events.{eventsSize}
 use Rattle.locks.proofs.Served.{serve-sound}
-use Rattle.gilboreth.specs.Messages.{entryRules, outcome}
+use Rattle.message.specs.Messages.{entryRules, outcome}
 use Rattle.promises.specs.Demand1.{keeps, Judged, numbers, entryOf}
 
 -- The first hit is judged so

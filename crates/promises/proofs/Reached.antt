@@ -24,7 +24,7 @@ use Rattle.locks.specs.Refusals.{rules}
 use Rattle.locks.specs.Serve.{Outcome, asking, serve}
 use Rattle.locks.specs.Events.{eventsSize}
 use Rattle.locks.proofs.Served.{asked}
-use Rattle.gilboreth.specs.Messages.{outcome}
+use Rattle.message.specs.Messages.{outcome}
 use Rattle.promises.proofs.Outcomes.{served-hit}
 use Rattle.promises.proofs.Sessions.{outcome-is}
 

@@ -21,7 +21,7 @@ use Rattle.locks.specs.Events.{eventsSize}
 use Rattle.locks.proofs.Served.{serve-sound}
 use Rattle.serve.specs.declared.Answer.{Answer}
 use Rattle.serve.specs.Leaves.{Leaves}
-use Rattle.gilboreth.specs.Messages.{outcome, Serves}
+use Rattle.message.specs.Messages.{outcome, Serves}
 use Rattle.promises.specs.Session.{Session, done, call}
 
 -- Of sound bytes the outcome is the rules'

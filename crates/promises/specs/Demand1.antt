@@ -20,7 +20,7 @@ use Rattle.stripe.specs.declared.Extent.{Extent}
 use Rattle.stripe.specs.Piece.{Piece, extentOf}
 use Rattle.stripe.specs.Refusals.{writeRules, restartRules}
 use Rattle.serve.specs.declared.Answer.{Answer}
-use Rattle.gilboreth.specs.Messages.{entryRules, outcome, Serves}
+use Rattle.message.specs.Messages.{entryRules, outcome, Serves}
 use Rattle.note.specs.Note.{noteList, noteAnswer, Notes}
 use Rattle.write.specs.Write.{writeAnswer, Writes}
 use Rattle.restart.specs.Restart.{restartAnswer, Restarts}

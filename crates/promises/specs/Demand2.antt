@@ -19,7 +19,7 @@ use Rattle.locks.specs.Serve.{serve}
 use Rattle.locks.specs.Events.{eventLayout, eventFields, eventsSize}
 use Rattle.locks.specs.Session.{tableAfter, events, handlesTaken, numbers}
 use Rattle.serve.specs.declared.Answer.{Answer}
-use Rattle.gilboreth.specs.Messages.{Serves}
+use Rattle.message.specs.Messages.{Serves}
 use Rattle.promises.specs.Session.{Session}
 use Rattle.promises.specs.Reasoned.{Reasoned}
 

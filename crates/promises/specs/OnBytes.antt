@@ -13,7 +13,7 @@ use Rattle.locks.specs.Events.{eventLayout, eventsSize}
 use Rattle.runs.specs.declared.Run.{Run}
 use Rattle.runs.specs.Bytes.{runsOf}
 use Rattle.serve.specs.declared.Answer.{Answer}
-use Rattle.gilboreth.specs.Messages.{Serves}
+use Rattle.message.specs.Messages.{Serves}
 use Rattle.stripe.specs.Piece.{piece, extentOf}
 use Rattle.note.specs.Note.{noteAnswer}
 use Rattle.write.specs.Write.{writeAnswer}

@@ -15,7 +15,7 @@ use Rattle.locks.specs.Conflicts.{obstacle}
 use Rattle.locks.specs.Settle.{Event}
 use Rattle.locks.specs.Events.{eventsSize}
 use Rattle.serve.specs.declared.Answer.{Answer}
-use Rattle.gilboreth.specs.Messages.{outcome, Serves}
+use Rattle.message.specs.Messages.{outcome, Serves}
 use Rattle.promises.specs.Among.{Among}
 use Rattle.promises.specs.Session.{Session}
 

@@ -8,7 +8,7 @@ use Rattle.locks.specs.declared.Message.{Message}
 use Rattle.locks.specs.Settle.{Event}
 use Rattle.locks.specs.Events.{eventsSize}
 use Rattle.serve.specs.declared.Answer.{Answer}
-use Rattle.gilboreth.specs.Messages.{outcome, Serves}
+use Rattle.message.specs.Messages.{outcome, Serves}
 
 -- From the table's bytes t the messages lead to v, with these events
 pub data Session : List ℕ → List Message → List Event → List ℕ → Type 0 where

@@ -22,13 +22,14 @@ use Rattle.locks.specs.declared.Message.the-variants.{Release}
 use Rattle.locks.specs.Refusals.{named, namingRules, rules}
 use Rattle.locks.specs.Serve.{change, answered}
 use Rattle.serve.specs.declared.Answer.{Answer}
-use Rattle.serve.specs.declared.Found.{Found}
-use Rattle.serve.specs.declared.Becomes.{Becomes}
-use Rattle.serve.specs.declared.Becomes.the-variants.{Canceling, Nbw}
-use Rattle.serve.specs.Posts.{OnSound, Ends, Finds, asks, ready, becoming}
+use Rattle.judge.specs.declared.Found.{Found}
+use Rattle.judge.specs.declared.Becomes.{Becomes}
+use Rattle.judge.specs.declared.Becomes.the-variants.{Canceling, Nbw}
+use Rattle.judge.specs.Posts.{Finds, asks, ready, becoming}
+use Rattle.serve.specs.Posts.{OnSound, Ends}
 use Rattle.serve.proofs.Ending.{message-refused, message-good, message-served}
-use Rattle.serve.proofs.Alone.{one-keep, one-map}
-use Rattle.serve.proofs.Finding.{has-named, found-none, found-one}
+use Rattle.judge.proofs.Alone.{one-keep, one-map}
+use Rattle.judge.proofs.Finding.{has-named, found-none, found-one}
 
 -- m is a message of the client c on the handle h, and `may` is what 11 asks
 pub record Names (m : Message) (c h : ℕ) (may : Lock → Bool) : Type 0 where

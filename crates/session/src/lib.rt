@@ -2,7 +2,7 @@
 use line::Read;
 use locks::Message;
 use serve::Answer;
-ghost use Rattle.gilboreth.specs.Messages.{Serves};
+ghost use Rattle.message.specs.Messages.{Serves};
 ghost use Rattle.session.specs.Buffers.{Lent, Ready, Answers, Feeds, Ends};
 
 // Serves a message through the entry that C gets.

@@ -1,7 +1,7 @@
 -- `ready`: what 11 asks, message by message.
 use borrow.Author.Needs.{needs}
-use Rattle.serve.proofs.ready.Statement.{statement}
-use Rattle.serve.proofs.ready.Tie as tie
+use Rattle.judge.proofs.ready.Statement.{statement}
+use Rattle.judge.proofs.ready.Tie as tie
 
 canceling : tie.Need-returns
 canceling c = rw (c .before .enum-told .given .1)

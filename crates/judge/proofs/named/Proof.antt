@@ -1,8 +1,8 @@
 -- `named`: what it finds is what its tests say.
-use Rattle.serve.proofs.Finding.{finds-3, finds-9, finds-10, finds-it}
+use Rattle.judge.proofs.Finding.{finds-3, finds-9, finds-10, finds-it}
 use borrow.Author.Needs.{needs}
-use Rattle.serve.proofs.named.Statement.{statement}
-use Rattle.serve.proofs.named.Tie as tie
+use Rattle.judge.proofs.named.Statement.{statement}
+use Rattle.judge.proofs.named.Tie as tie
 
 it : tie.Need-returns-4
 it c =

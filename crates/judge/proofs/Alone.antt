@@ -15,7 +15,7 @@ use Rattle.table.specs.declared.Lock.{Lock}
 use Rattle.table.specs.Table.{Table, handleOf, blank, nth}
 use Rattle.table.specs.Sound.{agree, differ, share, sound}
 use Rattle.table.proofs.Facts.{sound→}
-use Rattle.serve.specs.Posts.{has}
+use Rattle.judge.specs.Posts.{has}
 
 rises : (a b : Lock) → T (agree a b) → handleOf a < handleOf b
 unfolding agree

@@ -19,9 +19,9 @@ use Rattle.table.specs.Places.{lockAt, Good, First}
 use Rattle.table.proofs.Records.{inside, nth-is}
 use Rattle.table.proofs.Scan.{scan-end}
 use Rattle.locks.specs.Refusals.{named, namingRules}
-use Rattle.serve.specs.declared.Found.{Found}
-use Rattle.serve.specs.Posts.{has, Finds}
-use Rattle.serve.proofs.Alone.{one-any}
+use Rattle.judge.specs.declared.Found.{Found}
+use Rattle.judge.specs.Posts.{has, Finds}
+use Rattle.judge.proofs.Alone.{one-any}
 
 pub has-named : (c h : ℕ) (r : Lock) → T (named c h r) → T (has h r)
 has-named c h r u = and-l (has h r) (eqb (r .client) c) u

@@ -22,7 +22,7 @@ use Rattle.locks.specs.Events.{eventsSize}
 use Rattle.serve.specs.declared.Answer.{Answer}
 use Rattle.serve.specs.Leaves.{Leaves}
 use Rattle.serve.proofs.Ending.{leaves-refused}
-use Rattle.gilboreth.specs.Messages.{outcome, Serves}
+use Rattle.message.specs.Messages.{outcome, Serves}
 
 module _ (m : Message) (t b : List ℕ) (r : Answer) where
   pub too-short : length b < eventsSize width → r ≡ record { refusal = 1; handle = 0; events = 0 } → Serves m t b r t b

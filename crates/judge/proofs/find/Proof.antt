@@ -6,9 +6,9 @@ use Rattle.common.specs.Counters.{width}
 use Rattle.table.specs.Bytes.{locksOf}
 use Rattle.table.specs.Places.{Past}
 use Rattle.table.proofs.Scan.{scan-first, scan-on, scan-none, reads, reads-not}
-use Rattle.serve.specs.Posts.{has}
-use Rattle.serve.proofs.find.Statement.{statement}
-use Rattle.serve.proofs.find.Tie as tie
+use Rattle.judge.specs.Posts.{has}
+use Rattle.judge.proofs.find.Statement.{statement}
+use Rattle.judge.proofs.find.Tie as tie
 
 abbrev Inv-loop : tie.InvT-loop
 Inv-loop t n h i₀ i = Past (has (h .0)) n (locksOf width t) i

@@ -1,7 +1,7 @@
 -- `becoming`: what the record becomes, message by message.
 use borrow.Author.Needs.{needs}
-use Rattle.serve.proofs.becoming.Statement.{statement}
-use Rattle.serve.proofs.becoming.Tie as tie
+use Rattle.judge.proofs.becoming.Statement.{statement}
+use Rattle.judge.proofs.becoming.Tie as tie
 
 canceling : tie.Need-returns
 canceling c = rw (c .before .enum-told .given .1) (c .remade .ensures)

@@ -1,8 +1,8 @@
 -- `serve`: each arm of the match serves its message.
 use Rattle.serve.proofs.Ending.{counted}
 use borrow.Author.Needs.{needs}
-use Rattle.serve.proofs.serve.Statement.{statement}
-use Rattle.serve.proofs.serve.Tie as tie
+use Rattle.message.proofs.serve.Statement.{statement}
+use Rattle.message.proofs.serve.Tie as tie
 
 requests : tie.Need-returns
 requests c = rw (c .before .before .before .before .before .before .before .before .m .given .1) (c .before .before .before .before .request .ensures)
