@@ -1,4 +1,2 @@
 pub mod Putting
-pub mod Merging
 pub mod Inserting
-pub mod Halves

@@ -136,6 +136,6 @@ pub fn rebuilt(out: &mut [u8], log: &[u8]) -> usize
 {
     let mut order = [0u16; runbytes::MAX_ENTRIES];
     let mut begun = [0u16; runbytes::MAX_ENTRIES];
-    order::sorted(log, &mut begun, &mut order);
+    sort::sorted(log, &mut begun, &mut order);
     draw(out, log, &order, &mut begun)
 }
