@@ -6,6 +6,9 @@ use Rattle.session.proofs.Serving.{counted, answered-good, answered-bad
 use Rattle.session.proofs.answer.Statement.{statement}
 use Rattle.session.proofs.answer.Tie as tie
 
+abbrev called : tie.After-slice-known7 → tie.After-call
+called c = c .before .before .before .before .before .before .before .before .before
+
 put-bad-requires : tie.Need-put-bad-requires
 put-bad-requires c κs = search needs
 
@@ -22,7 +25,7 @@ bad c = rw (c .before .before .before .before .enum-told .given .1) (answered-ba
 
 good : tie.Need-returns-2
 good c =
-    let e = c .before .before .before .before .before .before .before .before .before in
+    let e = called c in
     let l = e .before .before .before .before .before .before .before .before .before .pre in
     rw (e .before .before .before .before .r .given .1)
     (answered-good _ _ _ (l .sound) (l .event-room) (e .call .ensures) l refl (e .call .kept .1 .0) (c .before .before .put-outcome .ensures))
@@ -30,5 +33,6 @@ good c =
 pub answer-spec : {M : Type 1} → statement M
 answer-spec =
     tie.close
-    (tie.spec (λ c. search needs) put-bad-requires (λ c. search needs) (λ c κs. search needs) put-outcome-requires (λ c. search needs) bad
-    (λ c. search needs) (λ c. search needs) (λ c. search needs) good)
+    (tie.spec (λ c. search needs) put-bad-requires (λ c. search needs) (λ c κs. search needs) put-outcome-requires
+    (λ c. c .before .before .put-bad .kept .0) bad (λ c. called c .call .kept .0) (λ c. called c .call .kept .1 .0)
+    (λ c. c .before .before .put-outcome .kept .0) good)
