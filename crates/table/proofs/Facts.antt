@@ -5,7 +5,7 @@ use mathlib.Core.Bool.{Bool, not, _&&_, _||_, cond}
 use mathlib.Core.List.{List}
 use mathlib.Core.Logic.{_⊎_, inl, inr, ⊎-elim}
 use mathlib.Core.Path.{_≡_, sym}
-use lib.Dec.{T, T-not, not-T, eqb, leb→le, le→leb, ltb→lt, lt→ltb, eqb→eq}
+use lib.Dec.{T, T-not, not-T, eqb, leb, leb→le, le→leb, ltb→lt, lt→ltb, eqb→eq}
 use lib.ListN.{length, getD}
 use Rattle.common.specs.Counters.{width, highest}
 use Rattle.common.specs.Ranges.{within, overlap, eof}
@@ -13,7 +13,7 @@ use Rattle.common.specs.Tests.{all, pairs, implies}
 use Rattle.common.proofs.Bools.{and-l, and-r, and-i, or-e, or-l, or-r, imp-i, imp-e, choice-l, choice-r, choice-i}
 use Rattle.common.proofs.Order.{eq→eqb}
 use Rattle.table.specs.declared.Lock.{Lock}
-use Rattle.table.specs.Table.{Table, handleOf, numberOf, held, writes, maxClient, maxStripe, stripeCount, maxRecords}
+use Rattle.table.specs.Table.{Table, handleOf, numberOf, waits, held, writes, maxClient, maxStripe, stripeCount, maxRecords}
 use Rattle.table.specs.Sound.{valid, yields, together, differ, share, agree, room, stripes, sound}
 
 -- One record
@@ -27,6 +27,8 @@ pub record Valid (issued : ℕ) (lasts : List ℕ) (r : Lock) : Type 0 where
   pub state-hi : r .state ≤ 3
   pub ordered : r .first ≤ r .last
   pub ends : r .last ≤ eof
+  pub mark-of : T (waits r) → r .mark ≤ 1
+  pub mark-no : T (held r) → r .mark ≡ 0
   pub number-of : T (held r && writes r) → (1 ≤ numberOf r) × (numberOf r ≤ getD lasts (r .stripe) 0)
   pub number-no : T (not (held r && writes r)) → numberOf r ≡ 0
 
@@ -42,6 +44,8 @@ valid→ issued lasts r t = record {
   state-hi = search (and-l, and-r, leb→le) depth 12;
   ordered = search (and-l, and-r, leb→le) depth 12;
   ends = search (and-l, and-r, leb→le) depth 12;
+  mark-of = λ h. leb→le (r .mark) 1 (choice-l (waits r) (leb (r .mark) 1) (eqb (r .mark) 0) (search (and-l, and-r) depth 4) h);
+  mark-no = λ h. eqb→eq (r .mark) 0 (choice-r (waits r) (leb (r .mark) 1) (eqb (r .mark) 0) (search (and-l, and-r) depth 4) h);
   number-of = λ h.
       let u : T (within 1 (numberOf r) (getD lasts (r .stripe) 0)) =
       choice-l (held r && writes r) (within 1 (numberOf r) (getD lasts (r .stripe) 0)) (eqb (numberOf r) 0) (search (and-r)) h in
@@ -56,6 +60,8 @@ unfolding valid
     let u : T (cond (held r && writes r) (within 1 (numberOf r) (getD lasts (r .stripe) 0)) (eqb (numberOf r) 0)) =
     choice-i (held r && writes r) (within 1 (numberOf r) (getD lasts (r .stripe) 0)) (eqb (numberOf r) 0)
     (λ h. let n = v .number-of h in search (and-i, le→leb)) (λ h. eq→eqb (numberOf r) 0 (v .number-no h)) in
+    let m : T (cond (waits r) (leb (r .mark) 1) (eqb (r .mark) 0)) =
+    choice-i (waits r) (leb (r .mark) 1) (eqb (r .mark) 0) (λ h. le→leb (r .mark) 1 (v .mark-of h)) (λ h. eq→eqb (r .mark) 0 (v .mark-no h)) in
     search (and-i, le→leb) depth 12
 
 -- a record stays valid where more handles are issued or numbers taken
@@ -71,6 +77,8 @@ still-valid r h k v =
       state-hi = v .state-hi;
       ordered = v .ordered;
       ends = v .ends;
+      mark-of = v .mark-of;
+      mark-no = v .mark-no;
       number-of = λ t. let n = v .number-of t in (n .0, omega arith);
       number-no = v .number-no;
     }

@@ -14,18 +14,18 @@ use Rattle.common.proofs.Scans.{all-from}
 use Rattle.xdr.specs.Layout.{Fit}
 use Rattle.xdr.specs.Array.{Fits}
 use Rattle.table.specs.declared.Lock.{Lock}
-use Rattle.table.specs.Table.{Table, held, writes, numberOf, remade, stripeCount}
+use Rattle.table.specs.Table.{Table, waits, held, writes, numberOf, remade, stripeCount}
 use Rattle.table.specs.Sound.{valid, room, wants, sound}
 use Rattle.table.specs.Bytes.{lockLayout, lockFields, lastsLayout}
-use Rattle.table.specs.Places.{ShownFits}
+use Rattle.table.specs.Places.{LockFits}
 use Rattle.table.proofs.Facts.{Valid, valid→, Sound, sound→}
 use Rattle.table.proofs.Encoding.{FitTable}
 
 -- in another mode and state it fits as well
-pub remade-fits : (m s : ℕ) (r q : Lock) → m < 256 ^ 4 → s < 256 ^ 4 → q ≡ remade r m s (numberOf r) (r .last) → ShownFits r → ShownFits q
-remade-fits m s r q h k e f = rw e (f .0, (f .1 .0, (f .1 .1 .0, (h, (k, f .1 .1 .1 .1 .1)))))
+pub remade-fits : (m s : ℕ) (r q : Lock) → m < 256 ^ 4 → s < 256 ^ 4 → q ≡ remade r m s (numberOf r) (r .last) → LockFits r → LockFits q
+remade-fits m s r q h k e f = rw e (f .0, (f .1 .0, (f .1 .1 .0, (h, (k, (f .1 .1 .1 .1 .1 .0, (f .1 .1 .1 .1 .1 .1 .0, (f .1 .1 .1 .1 .1 .1 .1 .0, (omega arith, tt)))))))))
 
-pub state-fits : (s : ℕ) (r q : Lock) → s < 256 ^ 4 → q ≡ remade r (r .mode) s (numberOf r) (r .last) → ShownFits r → ShownFits q
+pub state-fits : (s : ℕ) (r q : Lock) → s < 256 ^ 4 → q ≡ remade r (r .mode) s (numberOf r) (r .last) → LockFits r → LockFits q
 state-fits s r q k e f = remade-fits (r .mode) s r q (f .1 .1 .1 .0) k e f
 
 module _ (issued : ℕ) (lasts : List ℕ) (rs : List Lock) (S : Sound issued lasts rs) where
@@ -41,12 +41,16 @@ module _ (issued : ℕ) (lasts : List ℕ) (rs : List Lock) (S : Sound issued la
       let l = last-small (r .stripe) (let s = v .stripe-hi in omega arith) in
       ⊎-elim (λ (h : T (held r && writes r)). let n = v .number-of h in omega arith) (λ (h : T (not (held r && writes r))). let n = v .number-no h in omega arith) (either (held r && writes r))
 
-  pub lock-fits : (r : Lock) → T (valid issued lasts r) → ShownFits r
+  mark-small : (r : Lock) → Valid issued lasts r → r .mark ≤ 1
+  mark-small r v = ⊎-elim (λ (h : T (waits r)). v .mark-of h) (λ (h : T (held r)). let n = v .mark-no h in omega arith) (either (waits r))
+
+  pub lock-fits : (r : Lock) → T (valid issued lasts r) → LockFits r
   lock-fits r t =
       let v = valid→ issued lasts r t in
       let n = number-small r v in
+      let m = mark-small r v in
       let f = S .few in
-      (omega arith, (omega arith, (omega arith, (omega arith, (omega arith, (omega arith, (omega arith, (omega arith, tt))))))))
+      (omega arith, (omega arith, (omega arith, (omega arith, (omega arith, (omega arith, (omega arith, (omega arith, (omega arith, tt)))))))))
 
   pub locks-fit : (ls : List Lock) → T (all (valid issued lasts) ls) → Fits (lockLayout width) (map lockFields ls)
   locks-fit [] t = tt

@@ -1,7 +1,7 @@
 -- From the table's bytes to what they say: the records, the last numbers, and which bytes decide each of them.
 use mathlib.Core.Path.{_≡_, refl, sym, ap, ap₂, _∙_}
 use mathlib.Core.List.{List, [], _∷_}
-use Prim.Native.Nat.{ℕ, zero, suc, _+_, _*_, _≤_, _<_}
+use Prim.Native.Nat.{ℕ, zero, suc, _+_, _*_, _^_, _≤_, _<_}
 use native.Mathlib.Nat.{add-zero, zero-add, add-assoc, mul-zero, mul-suc, add-comm}
 use native.Mathlib.Numerals.{add-one}
 use native.Mathlib.Omega.{arith}
@@ -15,9 +15,9 @@ use Rattle.xdr.specs.Tab.{tab}
 use Rattle.xdr.proofs.Fields.{fields-ext, fields-at, fields-inj}
 use Rattle.xdr.proofs.Tabs.{length-tab, getD-tab, tab-ext, map-tab}
 use Rattle.table.specs.declared.Lock.{Lock}
-use Rattle.table.specs.Table.{blank, lastOf, stripeCount}
-use Rattle.table.specs.Bytes.{lockLayout, lockFields, lockOf, lastsLayout, locksOf, tableOf}
-use Rattle.table.specs.Places.{lastPlace, lockPlace, lockAt, countOf, Shape}
+use Rattle.table.specs.Table.{blank, withMark, lastOf, stripeCount}
+use Rattle.table.specs.Bytes.{shownLayout, shownOf, lockLayout, lockFields, lockOf, lastsLayout, locksOf, tableOf}
+use Rattle.table.specs.Places.{lastPlace, lockPlace, lockAt, countOf, ShownFits, LockFits, Shape}
 
 pub locks-tab : (t : List ℕ) → locksOf width t ≡ tab (countOf t) (lockAt t)
 unfolding array lockAt
@@ -44,10 +44,16 @@ inside n i t S h = let l = locks-length t in let c = S .count in omega arith
 pub nth-is : (n i : ℕ) (t : List ℕ) (r : Lock) → Shape n t → i < n → r ≡ lockAt t i → getD (locksOf width t) i blank ≡ r
 nth-is n i t r S h e = locks-at t i (let c = S .count in omega arith) ∙ sym e
 
--- r, read where the record at place i starts, is that record
-pub lock-read : (t : List ℕ) (i p : ℕ) (r : Lock) → p ≡ lockPlace i → r ≡ lockOf (fields (lockLayout width) t p 0) → r ≡ lockAt t i
-unfolding lockAt
-lock-read t i p r e q = q ∙ ap (λ (k : ℕ). lockOf (fields (lockLayout width) t k 0)) e
+-- r, of what is shown where the record at place i starts and of the mark behind it, is that record
+module _ (t : List ℕ) (i p m : ℕ) (s r : Lock) (h : r ≡ withMark s m) where
+  pub lock-read : p ≡ lockPlace i → s ≡ shownOf (fields (shownLayout width) t p 0) → m ≡ be 4 t (p + size (shownLayout width)) → r ≡ lockAt t i
+  unfolding lockAt fields
+  lock-read e f g =
+      h ∙ ap₂ (λ (x : Lock) (y : ℕ). withMark x y) f g
+      ∙ ap (λ (k : ℕ). withMark (shownOf (fields (shownLayout width) t k 0)) (be 4 t (k + size (shownLayout width)))) e
+
+  pub lock-read-fits : ShownFits s → m < 256 ^ 4 → LockFits r
+  lock-read-fits f k = rw h (f .0, (f .1 .0, (f .1 .1 .0, (f .1 .1 .1 .0, (f .1 .1 .1 .1 .0, (f .1 .1 .1 .1 .1 .0, (f .1 .1 .1 .1 .1 .1 .0, (f .1 .1 .1 .1 .1 .1 .1 .0, (k, tt)))))))))
 
 -- r, read where field k of the record that starts at p stands, is the record's
 pub field-read : (k : ℕ) → k < length (lockLayout width) → (t : List ℕ) (i p r : ℕ) → p ≡ lockPlace i

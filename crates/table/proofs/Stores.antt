@@ -14,8 +14,8 @@ use Rattle.xdr.proofs.Fields.{fields-ext, fields-put, put-fields-other, put-fie
 use Rattle.xdr.proofs.Tabs.{tab-ext, tab-set}
 use Rattle.table.specs.declared.Lock.{Lock}
 use Rattle.table.specs.Table.{Table, stripeCount, maxRecords}
-use Rattle.table.specs.Bytes.{lockLayout, lockFields, lockOf, lastsLayout, arrayAt, locksOf, tableOf}
-use Rattle.table.specs.Places.{lastPlace, lockPlace, lockAt, countOf, ShownFits, Shape, Holds, withIssued, withLast, withLock, withLocks}
+use Rattle.table.specs.Bytes.{shownLayout, shownFields, lockLayout, lockFields, lockOf, lastsLayout, arrayAt, locksOf, tableOf}
+use Rattle.table.specs.Places.{lastPlace, lockPlace, lockAt, countOf, LockFits, Shape, Holds, withIssued, withLast, withLock, withLocks}
 use Rattle.table.proofs.Records.{locks-tab, lock-ext, lasts-tab}
 
 -- the bytes of t and u agree but in the k from a on
@@ -89,8 +89,13 @@ module _ (n i : ℕ) (l : Lock) (t u : List ℕ) (T : Shape n t) (p : i < n) (lo
       (tab-set (countOf t) (lockAt t) (lockAt u) i l here (λ k q. lock-kept a m t u b k (λ x y r s w. omega arith)) (omega arith)
       ∙ ap (λ (ls : List Lock). set ls i l) (sym (locks-tab t)))
 
--- a whole record is stored
-pub lock-stored : (n i p : ℕ) (l : Lock) (t u : List ℕ) → Shape n t → i < n → ShownFits l → p ≡ lockPlace i
+-- what is shown and then the mark are stored: the whole record
+pub record-put : (p : ℕ) (l : Lock) (t v u : List ℕ) → v ≡ putFields (shownLayout width) t p 0 (shownFields l)
+    → u ≡ putBe 4 v (p + size (shownLayout width)) (l .mark) → u ≡ putFields (lockLayout width) t p 0 (lockFields l)
+unfolding putFields
+record-put p l t v u e f = f ∙ ap (λ (x : List ℕ). putBe 4 x (p + size (shownLayout width)) (l .mark)) e
+
+pub lock-stored : (n i p : ℕ) (l : Lock) (t u : List ℕ) → Shape n t → i < n → LockFits l → p ≡ lockPlace i
     → u ≡ putFields (lockLayout width) t p 0 (lockFields l) → Holds n (withLock (tableOf width t) i l) u
 unfolding lockAt
 lock-stored n i p l t u T h f e q =

@@ -2,7 +2,7 @@
 use Prim.Native.Nat.{ℕ, _+_}
 use mathlib.Core.Path.{_≡_, refl}
 use mathlib.Core.Bool.{Bool, _&&_}
-use mathlib.Core.List.{List, [], _∷_, map}
+use mathlib.Core.List.{List, [], _∷_, _++_, map}
 use lib.Dec.{eqb}
 use lib.ListN.{length, getD, drop, replicate}
 use Rattle.common.specs.Counters.{handle, number, width}
@@ -11,10 +11,10 @@ use Rattle.xdr.specs.Be.{be}
 use Rattle.xdr.specs.Layout.{fields, size}
 use Rattle.xdr.specs.Array.{array, arraySize, element}
 use Rattle.table.specs.declared.Lock.{Lock}
-use Rattle.table.specs.Table.{Table, stripeCount, maxRecords, handleOf, numberOf}
+use Rattle.table.specs.Table.{Table, stripeCount, maxRecords, handleOf, numberOf, withMark}
 use Rattle.table.specs.Sound.{sound}
 
--- What is shown of a record, in its own bytes and in an event's: the widths, the numbers, and the record that numbers say
+-- What is shown of a record, in its own bytes and in an event's: the widths, the numbers, and the record that numbers say. No mark is shown
 abbrev pub shownLayout : ℕ → List ℕ
 shownLayout w = w ∷ 4 ∷ 4 ∷ 4 ∷ 4 ∷ w ∷ 8 ∷ 8 ∷ []
 
@@ -32,19 +32,20 @@ shownOf fs =
       number = number (getD fs 5 0);
       first = getD fs 6 0;
       last = getD fs 7 0;
+      mark = 0;
     }
 
--- "A record is handle, client, stripe, mode, state, number, first, last: 40 bytes."
+-- "A record is handle, client, stripe, mode, state, number, first, last"; with request #101 "a record ends in a 4-byte word": 44 bytes
 abbrev pub lockLayout : ℕ → List ℕ
-lockLayout w = shownLayout w
+lockLayout w = shownLayout w ++ 4 ∷ []
 
 abbrev pub lockFields : Lock → List ℕ
-lockFields r = shownFields r
+lockFields r = shownFields r ++ r .mark ∷ []
 
 abbrev pub lockOf : List ℕ → Lock
-lockOf fs = shownOf fs
+lockOf fs = withMark (shownOf fs) (getD fs 8 0)
 
--- "Table, exactly 10,312 bytes: handles issued; 16 last sequence numbers; the array of at most 256 records .."
+-- "Table, exactly 11,336 bytes: handles issued; 16 last sequence numbers; the array of at most 256 records .."
 abbrev pub lastsLayout : ℕ → List ℕ
 lastsLayout w = replicate stripeCount w
 
@@ -68,8 +69,8 @@ recordsEnd w t = element (lockLayout w) (arrayAt w) (be 4 t (arrayAt w))
 unfoldable pub soundTableBytes : List ℕ → Bool
 soundTableBytes t = eqb (length t) (tableSize width) && (sound (tableOf width t) && zeros (drop (recordsEnd width t) t))
 
-pub lock-size : size (lockLayout 4) ≡ 40
+pub lock-size : size (lockLayout 4) ≡ 44
 lock-size = refl
 
-pub table-size : tableSize 4 ≡ 10312
+pub table-size : tableSize 4 ≡ 11336
 table-size = refl

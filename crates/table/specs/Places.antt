@@ -15,7 +15,7 @@ use Rattle.xdr.specs.Array.{element}
 use Rattle.table.specs.declared.Lock.{Lock}
 use Rattle.table.specs.Table.{Table, blank, maxRecords}
 use Rattle.table.specs.Sound.{sound}
-use Rattle.table.specs.Bytes.{shownLayout, shownFields, lockLayout, lockOf, arrayAt, tableSize, locksOf, tableOf, recordsEnd}
+use Rattle.table.specs.Bytes.{shownLayout, shownFields, lockLayout, lockFields, lockOf, arrayAt, tableSize, locksOf, tableOf, recordsEnd}
 
 -- where the last number of stripe s stands, and where the record at place i starts
 abbrev pub lastPlace : ℕ → ℕ
@@ -31,9 +31,12 @@ lockAt t i = lockOf (fields (lockLayout width) t (lockPlace i) 0)
 abbrev pub countOf : List ℕ → ℕ
 countOf t = be 4 t (arrayAt width)
 
--- each number that is shown of r has room in its field
+-- each number that is shown of r has room in its field; each number of its record has
 abbrev pub ShownFits : Lock → Type 0
 ShownFits r = Fit (shownLayout width) (shownFields r)
+
+abbrev pub LockFits : Lock → Type 0
+LockFits r = Fit (lockLayout width) (lockFields r)
 
 -- a table of n records, with zero bytes after them
 pub record Shape (n : ℕ) (t : List ℕ) : Type 0 where

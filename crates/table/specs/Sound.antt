@@ -15,6 +15,10 @@ use Rattle.table.specs.Table.{Table, maxClient, maxStripe, stripeCount, 
 abbrev pub numbered : List ℕ → Lock → Bool
 numbered lasts r = cond (held r && writes r) (within 1 (numberOf r) (getD lasts (r .stripe) 0)) (eqb (numberOf r) 0)
 
+-- "1 while a marked request waits and else 0"
+abbrev pub wellMarked : Lock → Bool
+wellMarked r = cond (waits r) (leb (r .mark) 1) (eqb (r .mark) 0)
+
 -- "handles lie in 1 to handles issued; codes, clients, stripes and ranges are valid"
 unfoldable pub valid : ℕ → List ℕ → Lock → Bool
 valid issued lasts r =
@@ -24,6 +28,7 @@ valid issued lasts r =
     && knownMode (r .mode)
     && knownState (r .state)
     && range (r .first) (r .last)
+    && wellMarked r
     && numbered lasts r
 
 -- Two held locks of a stripe

@@ -47,6 +47,10 @@ held r = not (waits r)
 abbrev pub writes : Lock → Bool
 writes r = not (eqb (r .mode) pr)
 
+-- "Such a request is marked": while it waits
+abbrev pub marked : Lock → Bool
+marked r = not (eqb (r .mark) 0)
+
 -- What stands where no record is: zeros
 abbrev pub blank : Lock
 blank =
@@ -59,9 +63,11 @@ blank =
       number = number 0;
       first = 0;
       last = 0;
+      mark = 0;
     }
 
--- A record with another mode, state, number and last byte: what settling and a message change of it
+-- A held record with this mode, state, number and last byte: what settling and a message make of a record. "a record ends in a 4-byte word, 1 while a
+-- marked request waits and else 0"
 abbrev pub remade : Lock → ℕ → ℕ → ℕ → ℕ → Lock
 remade r mode state n last =
     record {
@@ -73,6 +79,22 @@ remade r mode state n last =
       number = number n;
       first = r .first;
       last = last;
+      mark = 0;
+    }
+
+-- The record with another mark
+abbrev pub withMark : Lock → ℕ → Lock
+withMark r mark =
+    record {
+      handle = r .handle;
+      client = r .client;
+      stripe = r .stripe;
+      mode = r .mode;
+      state = r .state;
+      number = r .number;
+      first = r .first;
+      last = r .last;
+      mark = mark;
     }
 
 -- The record at place i, counted from 0

@@ -8,9 +8,9 @@ ghost use Prim.Native.Nat.{_+_, _-_, _^_, _≤_, _<_};
 ghost use lib.ListN.{length};
 ghost use Rattle.common.specs.Counters.{width};
 ghost use Rattle.xdr.specs.Layout.{fields, putFields, size};
-ghost use Rattle.table.specs.Table.{blank, remade, handleOf, numberOf, lastOf, stripeCount, maxRecords};
+ghost use Rattle.table.specs.Table.{blank, remade, withMark, handleOf, numberOf, lastOf, stripeCount, maxRecords};
 ghost use Rattle.table.specs.Bytes.{shownLayout, shownFields, shownOf, tableSize, tableOf};
-ghost use Rattle.table.specs.Places.{lockPlace, lockAt, countOf, ShownFits, Shape, Holds, Moded};
+ghost use Rattle.table.specs.Places.{lockPlace, lockAt, countOf, ShownFits, LockFits, Shape, Holds, Moded};
 ghost use Rattle.table.specs.Places.{withIssued, withLast, withLock, withLocks, without};
 
 // The highest client and stripe, how many stripes there are, and how many records at most.
@@ -41,7 +41,9 @@ const LAST: usize = FIRST + 8;
 
 pub const SHOWN_BYTES: usize = LAST + 8;
 
-const RECORD_BYTES: usize = SHOWN_BYTES;
+const MARK: usize = SHOWN_BYTES;
+
+const RECORD_BYTES: usize = MARK + 4;
 
 // Where the parts of a table stand, and how many bytes they have.
 const ISSUED: usize = 0;
@@ -54,7 +56,7 @@ const RECORDS: usize = COUNT + 4;
 
 pub const TABLE_BYTES: usize = RECORDS + RECORD_BYTES * MAX_RECORDS;
 
-// A lock record: waiting in state 0, held in states 1 to 3.
+// A lock record: waiting in state 0, held in states 1 to 3. Its mark is 1 while a marked request waits, and else 0.
 pub struct Lock {
     pub handle: Handle,
     pub client: u64,
@@ -64,9 +66,10 @@ pub struct Lock {
     pub number: Number,
     pub first: u64,
     pub last: u64,
+    pub mark: u64,
 }
 
-// Makes of l the record with this mode, state, number and last byte.
+// Makes of l the held record with this mode, state, number and last byte.
 pub fn remade(l: Lock, mode: u64, state: u64, number: Number, last: u64) -> Lock
     ensures { λ r. ⌜ r ≡ remade l mode state (number .0) last ⌝ }
 {
@@ -80,6 +83,26 @@ pub fn remade(l: Lock, mode: u64, state: u64, number: Number, last: u64) -> Lock
         number: number,
         first: l.first,
         last: last,
+        mark: 0,
+    }
+}
+
+// Makes of l the record with this mark.
+fn with_mark(l: Lock, mark: u64) -> Lock
+    ensures { λ r. ⌜ r ≡ withMark l mark ⌝ }
+{
+    let h = l.handle;
+    let n = l.number;
+    Lock {
+        handle: h,
+        client: l.client,
+        stripe: l.stripe,
+        mode: l.mode,
+        state: l.state,
+        number: n,
+        first: l.first,
+        last: l.last,
+        mark: mark,
     }
 }
 
@@ -97,6 +120,7 @@ pub fn shown_at(s: &[u8], at: usize) -> Lock
         number: Number(common::counter_at(s, at + NUMBER)),
         first: xdr::u64_at(s, at + FIRST),
         last: xdr::u64_at(s, at + LAST),
+        mark: 0,
     }
 }
 
@@ -126,9 +150,10 @@ pub fn place(i: usize) -> usize
 // Reads the record at place i.
 pub fn lock_at(t: &[u8], i: usize) -> Lock
     requires { ⌜ (length (now t) ≡ tableSize width) × (i < maxRecords) ⌝ }
-    ensures { λ r. ⌜ (r ≡ lockAt (now (t .entry)) i) × ShownFits r ⌝ }
+    ensures { λ r. ⌜ (r ≡ lockAt (now (t .entry)) i) × LockFits r ⌝ }
 {
-    shown_at(t, place(i))
+    let at = place(i);
+    with_mark(shown_at(t, at), xdr::u32_at(t, at + MARK))
 }
 
 // Reads the handle of the record at place i.
@@ -195,6 +220,14 @@ pub fn last_at(t: &[u8], i: usize) -> u64
     xdr::u64_at(t, place(i) + LAST)
 }
 
+// Reads the mark of the record at place i.
+pub fn mark_at(t: &[u8], i: usize) -> u64
+    requires { ⌜ (length (now t) ≡ tableSize width) × (i < maxRecords) ⌝ }
+    ensures { λ r. ⌜ r ≡ lockAt (now (t .entry)) i .mark ⌝ }
+{
+    xdr::u32_at(t, place(i) + MARK)
+}
+
 // Reads the mode of the record at place i of a table whose modes are known: such a mode stands in the last byte of its field.
 pub fn known_mode_at(t: &[u8], n: usize, i: usize) -> u64
     requires { ⌜ Moded n (now t) × (i < n) ⌝ }
@@ -213,10 +246,12 @@ pub fn count(t: &[u8]) -> usize
 
 // Stores the record at place i.
 pub fn put_lock(t: &mut [u8], n: usize, i: usize, l: Lock)
-    requires { ⌜ Shape n (now t) × (i < n) × ShownFits l ⌝ }
+    requires { ⌜ Shape n (now t) × (i < n) × LockFits l ⌝ }
     ensures { λ _. ⌜ Holds n (withLock (tableOf width (now (t .entry))) i l) (now (t .exit)) ⌝ }
 {
-    put_shown(t, place(i), l);
+    let at = place(i);
+    put_shown(t, at, l);
+    xdr::put_u32(t, at + MARK, l.mark);
 }
 
 // Reads how many handles are issued.
@@ -253,7 +288,7 @@ pub fn put_last(t: &mut [u8], n: usize, s: usize, v: Number)
 
 // Adds the record after the n.
 pub fn add(t: &mut [u8], n: usize, l: Lock)
-    requires { ⌜ Shape n (now t) × (n < maxRecords) × ShownFits l ⌝ }
+    requires { ⌜ Shape n (now t) × (n < maxRecords) × LockFits l ⌝ }
     ensures { λ _. ⌜ Holds (n + 1) (withLocks (tableOf width (now (t .entry))) (tableOf width (now (t .entry)) .locks ++ (l ∷ []))) (now (t .exit)) ⌝ }
 {
     xdr::put_u32(t, COUNT, n as u64 + 1);
@@ -273,6 +308,7 @@ fn nothing() -> Lock
         number: Number(0),
         first: 0,
         last: 0,
+        mark: 0,
     }
 }
 

@@ -1,4 +1,4 @@
--- `last_at`: the last field of the layout.
+-- `last_at`: the eighth field of the layout.
 use lib.Dec.{lit<}
 use Rattle.table.proofs.Records.{field-read}
 use borrow.Author.Needs.{needs}
