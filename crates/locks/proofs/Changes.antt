@@ -1,6 +1,7 @@
 -- Changes that leave a record's handle, number, range and place: a revocation, an acknowledgement, a downgrade. They keep a table sound.
 use Prim.Native.Nat.{ℕ, _≤_, _<_}
 use native.Mathlib.Omega.{arith}
+use native.Mathlib.Nat.{le-refl}
 use mathlib.Core.Bool.{Bool, not, _&&_, cond}
 use mathlib.Core.List.{List, map}
 use mathlib.Core.Logic.{_⊎_, inl, inr}
@@ -29,12 +30,16 @@ record Same (r r′ : Lock) : Type 0 where
   first-is : r′ .first ≡ r .first
   last-is : r′ .last ≡ r .last
 
+same-refl : (r : Lock) → Same r r
+same-refl r = record { handle-is = refl; client-is = refl; stripe-is = refl; number-is = refl; first-is = refl; last-is = refl }
+
 same : (m s : ℕ) (r : Lock) → Same r (remade r m s (numberOf r) (r .last))
 same m s r = record { handle-is = refl; client-is = refl; stripe-is = refl; number-is = refl; first-is = refl; last-is = refl }
 
 -- r′ is r after such a change
 pub record Calm (r r′ : Lock) : Type 0 where
   same-is : Same r r′
+  mark-hi : r′ .mark ≤ r .mark
   pub waits-is : waits r′ ≡ waits r
   pub writes-is : writes r′ ≡ writes r
   pub state-hi : r .state ≤ 3 → r′ .state ≤ 3
@@ -46,7 +51,8 @@ pub record Calm (r r′ : Lock) : Type 0 where
 calm-refl : (r : Lock) → Calm r r
 calm-refl r =
     record {
-      same-is = same (r .mode) (r .state) r;
+      same-is = same-refl r;
+      mark-hi = le-refl (r .mark);
       waits-is = refl;
       writes-is = refl;
       state-hi = λ h. h;
@@ -75,6 +81,8 @@ calm-valid issued lasts r r′ c v =
       state-hi = c .state-hi (v .state-hi);
       ordered = omega arith;
       ends = omega arith;
+      mark-of = λ h. let k = v .mark-of (subst T (c .waits-is) h) in let l = c .mark-hi in omega arith;
+      mark-no = λ h. let k = v .mark-no (still-held r r′ c h) in let l = c .mark-hi in omega arith;
       number-of = λ h.
           let n = v .number-of (subst T e h) in
           let z : getD lasts (r′ .stripe) 0 ≡ getD lasts (r .stripe) 0 = ap (λ (i : ℕ). getD lasts i 0) (c .same-is .stripe-is) in
@@ -138,6 +146,7 @@ moved : (s : ℕ) (r : Lock) → 1 ≤ r .state → r .state < 3 → 1 ≤ s →
 moved s r lo hi l h =
     record {
       same-is = same (r .mode) s r;
+      mark-hi = omega arith;
       waits-is = ne-eqb s 0 (omega arith) ∙ sym (ne-eqb (r .state) 0 (omega arith));
       writes-is = refl;
       state-hi = λ _. h;
@@ -164,6 +173,7 @@ calm-downgraded c h r = by-cond (Calm r) (mayDowngrade c h r) (downgraded r) r (
     lowered e =
         record {
           same-is = same nbw (r .state) r;
+          mark-hi = omega arith;
           waits-is = refl;
           writes-is = sym (ap not (ne-eqb (r .mode) pr (omega arith)));
           state-hi = λ h. h;

@@ -26,7 +26,7 @@ use Rattle.table.specs.Sound.{valid, differ, share, agree, sound}
 use Rattle.table.proofs.Facts.{Valid, valid→, Sound, sound→}
 use Rattle.locks.specs.declared.Message.{Message}
 use Rattle.locks.specs.Conflicts.{other, against, conflicts, hurries}
-use Rattle.locks.specs.Settle.{Event, Settled, grantEvent, revocation, given, inState, nextNumber, widest, grant, free, turns, presses, wanted, revocations, settle}
+use Rattle.locks.specs.Settle.{Event, Settled, grantEvent, revocation, given, inState, nextNumber, lastGiven, grant, free, turns, presses, wanted, revocations, settle}
 use Rattle.locks.specs.Refusals.{rules}
 use Rattle.locks.specs.Serve.{Outcome, change, answered, served, serve}
 use Rattle.locks.proofs.Turn.{w-valid-here, widened-clear}
@@ -66,7 +66,7 @@ pub grant-held : (lasts : List ℕ) (rs : List Lock) (w : Lock) → T (held (gra
 unfolding grant
 grant-held lasts rs w =
     by-cond (λ (g : Lock). T (held g)) (any (hurries w) rs)
-    (given w canceling (nextNumber lasts w) (w .last)) (given w granted (nextNumber lasts w) (widest w eof rs)) (λ u. tt) (λ u. tt)
+    (given w canceling (nextNumber lasts w) (w .last)) (given w granted (nextNumber lasts w) (lastGiven rs w)) (λ u. tt) (λ u. tt)
 
 -- The turn of w
 module _ (issued : ℕ) (lasts : List ℕ) (before : List Lock) (w : Lock) (after : List Lock) (S : Sound issued lasts (before ++ (w ∷ after))) where
@@ -81,13 +81,13 @@ module _ (issued : ℕ) (lasts : List ℕ) (before : List Lock) (w : Lock) (afte
       (given w canceling (nextNumber lasts w) (w .last)) one (λ u. tt)
       (λ u. nobody (presses one) (before ++ (one ∷ after))
       (all-put (λ x. not (presses one x)) before one after tt
-      (all-imp2 (valid issued lasts) (λ r. not (against w (widest w eof table) r)) (λ x. not (presses one x))
-      (λ x a b. not-both w x granted (widest w eof table) (nextNumber lasts w) issued lasts (w-valid-here issued lasts before w after S t) (valid→ issued lasts x a) b)
+      (all-imp2 (valid issued lasts) (λ r. not (against w (lastGiven table w) r)) (λ x. not (presses one x))
+      (λ x a b. not-both w x granted (lastGiven table w) (nextNumber lasts w) issued lasts (w-valid-here issued lasts before w after S t) (valid→ issued lasts x a) b)
       (before ++ after) (all-out (valid issued lasts) before w after (S .each))
-      (all-out (λ r. not (against w (widest w eof table) r)) before w after (widened-clear issued lasts before w after S t u)))))
+      (all-out (λ r. not (against w (lastGiven table w) r)) before w after (widened-clear issued lasts before w after S t u)))))
     where
       one : Lock
-      one = given w granted (nextNumber lasts w) (widest w eof table)
+      one = given w granted (nextNumber lasts w) (lastGiven table w)
 
   -- a grant makes no other record wanted
   pub less-wanted : (g : Lock) → T (held g) → (r : Lock) → T (not (wanted table r)) → T (not (wanted (before ++ (g ∷ after)) r))

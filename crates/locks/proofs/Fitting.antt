@@ -18,7 +18,7 @@ use Rattle.table.specs.declared.Lock.{Lock}
 use Rattle.table.specs.Table.{Table}
 use Rattle.table.specs.Sound.{valid, sound}
 use Rattle.table.proofs.Facts.{Sound, sound→}
-use Rattle.table.proofs.Fitting.{state-fits, lock-fits}
+use Rattle.table.proofs.Fitting.{shown-fits, state-fits, lock-fits}
 use Rattle.locks.specs.declared.Message.{Message}
 use Rattle.locks.specs.Settle.{Event, Settled, grantEvent, revocation, inState, turns, wanted, revocations, settle}
 use Rattle.locks.specs.Refusals.{refusal}
@@ -50,8 +50,8 @@ settle-fit U S =
     let rs : List Lock = s .table .locks in
     let fits = lock-fits (U .issued) (s .table .lasts) rs (W .sound) in
     fit-join (s .events) (revocations rs)
-    (subst FitEvents (sym (G .are)) (fit-all p grantEvent (λ r t. (omega arith, fits r t)) (G .grants) (sub-all p (G .among) (W .sound .each))))
-    (fit-all p (λ r. revocation (inState asked r)) (λ r t. (omega arith, state-fits asked r (inState asked r) (omega arith) refl (fits r t))) (keep (wanted rs) rs) (all-keep p (wanted rs) rs (W .sound .each)))
+    (subst FitEvents (sym (G .are)) (fit-all p grantEvent (λ r t. (omega arith, shown-fits r (fits r t))) (G .grants) (sub-all p (G .among) (W .sound .each))))
+    (fit-all p (λ r. revocation (inState asked r)) (λ r t. (omega arith, shown-fits (inState asked r) (state-fits asked r (inState asked r) (omega arith) refl (fits r t)))) (keep (wanted rs) rs) (all-keep p (wanted rs) rs (W .sound .each)))
 
 pub serve-fit : (X : Table) (m : Message) → T (sound X) → FitEvents (serve X m .events)
 unfolding serve

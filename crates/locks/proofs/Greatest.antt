@@ -1,9 +1,10 @@
--- A lock granted in state 1 ends at the greatest byte up to EOF for which its whole range conflicts with nothing, at its turn.
+-- An unmarked request that is granted in state 1 ends at the greatest byte up to EOF for which its whole range conflicts with nothing, at its turn.
 use Prim.Native.Nat.{ℕ, suc, _≤_, _<_}
 use native.Mathlib.Omega.{arith}
+use native.Mathlib.Nat.{le-refl}
 use mathlib.Core.Bool.{not}
 use mathlib.Core.List.{List, _∷_, _++_}
-use mathlib.Core.Path.{_≡_, sym, subst}
+use mathlib.Core.Path.{_≡_, sym, ap, subst, _∙_}
 use lib.Dec.{T}
 use lib.ListN.{length, take, drop}
 use lib.Seq.{split-at}
@@ -13,12 +14,12 @@ use Rattle.common.proofs.Bools.{cond-false}
 use Rattle.common.proofs.Listed.{nobody}
 use Rattle.modes.specs.Codes.{granted, canceling}
 use Rattle.table.specs.declared.Lock.{Lock}
-use Rattle.table.specs.Table.{Table, nth, blank}
+use Rattle.table.specs.Table.{Table, nth, blank, marked}
 use Rattle.table.proofs.Facts.{Sound}
 use Rattle.locks.specs.Conflicts.{against, hurries}
-use Rattle.locks.specs.Settle.{Settled, given, nextNumber, widest, grant, free, turns}
-use Rattle.locks.proofs.Widening.{taken, at-most, at-least}
-use Rattle.locks.proofs.Turn.{quiet, widened-clear, w-valid-here}
+use Rattle.locks.specs.Settle.{Settled, given, nextNumber, widest, lastGiven, grant, free, turns}
+use Rattle.locks.proofs.Widening.{clear, taken, at-most, at-least}
+use Rattle.locks.proofs.Turn.{quiet, w-valid-here}
 use Rattle.locks.proofs.Walk.{Sounds, turns-sound}
 
 -- with the last byte l the request w conflicts with none of the records; with any later one up to EOF it conflicts with some
@@ -29,29 +30,31 @@ pub record Greatest (w : Lock) (rs : List Lock) (l : ℕ) : Type 0 where
   pub no-further : (m : ℕ) → l < m → m ≤ eof → T (any (against w m) rs)
 
 greatest : (issued : ℕ) (lasts : List ℕ) (before : List Lock) (w : Lock) (after : List Lock) → Sound issued lasts (before ++ (w ∷ after)) → T (free (before ++ (w ∷ after)) w)
-    → T (not (any (hurries w) (before ++ (w ∷ after)))) → Greatest w (before ++ (w ∷ after)) (grant lasts (before ++ (w ∷ after)) w .last)
+    → T (not (any (hurries w) (before ++ (w ∷ after)))) → T (not (marked w)) → Greatest w (before ++ (w ∷ after)) (grant lasts (before ++ (w ∷ after)) w .last)
 unfolding grant
-greatest issued lasts before w after S t u =
-    subst (λ (g : Lock). Greatest w rs (g .last)) (sym (cond-false (any (hurries w) rs) (given w canceling (nextNumber lasts w) (w .last)) (given w granted (nextNumber lasts w) (widest w eof rs)) u))
+greatest issued lasts before w after S t u k =
+    subst (Greatest w rs)
+    (sym (ap (λ (g : Lock). g .last) (cond-false (any (hurries w) rs) (given w canceling (nextNumber lasts w) (w .last)) (given w granted (nextNumber lasts w) (lastGiven rs w)) u)
+    ∙ cond-false (marked w) (w .last) (widest w eof rs) k))
     (record {
       reaches = at-least w eof rs (w-valid-here issued lasts before w after S t .ends) (quiet issued lasts before w after S t u);
       within-eof = at-most w eof rs;
-      clear-of-all = nobody (against w (widest w eof rs)) rs (widened-clear issued lasts before w after S t u);
+      clear-of-all = nobody (against w (widest w eof rs)) rs (clear w eof rs (widest w eof rs) (le-refl (widest w eof rs)) (quiet issued lasts before w after S t u));
       no-further = taken w eof rs;
     })
   where
     rs : List Lock
     rs = before ++ (w ∷ after)
 
--- The grant at place n, when its turn comes and no later request hurries it
+-- The grant at place n of an unmarked request, when its turn comes and no later request hurries it
 pub turn-greatest : (t : Table) → Sound (t .issued) (t .lasts) (t .locks) → (n : ℕ) → n < length (t .locks)
     → T (free (turns n t .table .locks) (nth (turns n t .table) n))
-    → T (not (any (hurries (nth (turns n t .table) n)) (turns n t .table .locks)))
+    → T (not (any (hurries (nth (turns n t .table) n)) (turns n t .table .locks))) → T (not (marked (nth (turns n t .table) n)))
     → Greatest (nth (turns n t .table) n) (turns n t .table .locks) (grant (turns n t .table .lasts) (turns n t .table .locks) (nth (turns n t .table) n) .last)
-turn-greatest t S n h f u =
+turn-greatest t S n h f u k =
     subst (λ (l : List Lock). Greatest w l (grant lasts l w .last)) (sym e)
     (greatest (t .issued) lasts (take n rs) w (drop (suc n) rs) (subst (λ (l : List Lock). Sound (t .issued) lasts l) e (R .sound))
-    (subst (λ (l : List Lock). T (free l w)) e f) (subst (λ (l : List Lock). T (not (any (hurries w) l))) e u))
+    (subst (λ (l : List Lock). T (free l w)) e f) (subst (λ (l : List Lock). T (not (any (hurries w) l))) e u) k)
   where
     R : Sounds t (turns n t)
     R = turns-sound t S n (omega arith)

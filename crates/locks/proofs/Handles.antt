@@ -31,7 +31,7 @@ issued-same t S = turns-sound t S (length (t .locks)) (omega arith) .count
 one-taken : (t : Table) (m : Message) → Sound (change t m .issued) (change t m .lasts) (change t m .locks)
     → Row (t .issued) (settle (change t m) .table .issued) (cond (requests m && true) (answered t m ∷ []) [])
 unfolding change answered
-one-taken t (Request c s m f l) S = record { many = 1; are = refl; ends = issued-same (change t (Request c s m f l)) S }
+one-taken t (Request c s m f l k) S = record { many = 1; are = refl; ends = issued-same (change t (Request c s m f l k)) S }
 one-taken t (Acknowledge c h) S = subst (λ (n : ℕ). Row (t .issued) n []) (sym (issued-same (change t (Acknowledge c h)) S)) (row-none (t .issued))
 one-taken t (Downgrade c h) S = subst (λ (n : ℕ). Row (t .issued) n []) (sym (issued-same (change t (Downgrade c h)) S)) (row-none (t .issued))
 one-taken t (Release c h) S = subst (λ (n : ℕ). Row (t .issued) n []) (sym (issued-same (change t (Release c h)) S)) (row-none (t .issued))

@@ -19,7 +19,7 @@ use Rattle.table.proofs.Facts.{valid→, Sound, sound→}
 use Rattle.locks.specs.declared.Message.{Message}
 use Rattle.locks.specs.declared.Message.the-variants.{Request, Acknowledge, Downgrade, Release}
 use Rattle.locks.specs.Conflicts.{against, conflicts, obstacle, hurries}
-use Rattle.locks.specs.Settle.{Event, given, inState, nextNumber, widest, grant, free, turns, presses, revoked, settle}
+use Rattle.locks.specs.Settle.{Event, given, inState, nextNumber, lastGiven, grant, free, turns, presses, revoked, settle}
 use Rattle.locks.specs.Refusals.{refusal, named, mayAcknowledge, mayDowngrade}
 use Rattle.locks.specs.Serve.{Outcome, asking, downgraded, change, answered, accepted, refused, serve}
 use Rattle.locks.proofs.Turn.{by-elder, w-valid-here, unhindered, widened-clear}
@@ -57,12 +57,12 @@ module _ (issued : ℕ) (lasts : List ℕ) (before : List Lock) (w : Lock) (afte
   unfolding grant
   overtakes-none =
       by-cond (λ (g : Lock). T (all (λ r. not (overtakes g r)) before)) (any (hurries w) table)
-      (given w canceling (nextNumber lasts w) (w .last)) (given w granted (nextNumber lasts w) (widest w eof table))
+      (given w canceling (nextNumber lasts w) (w .last)) (given w granted (nextNumber lasts w) (lastGiven table w))
       (λ u. met-by-none canceling (w .last)
       (all-imp2 (λ r. agree r w) (λ r. not (obstacle w r)) (λ r. not (conflicts w r)) (elder w) before
       (pairs-before agree before w after (S .apart)) (all-left (λ r. not (obstacle w r)) before (w ∷ after) (unhindered issued lasts before w after S f))))
-      (λ u. met-by-none granted (widest w eof table)
-      (all-left (λ r. not (against w (widest w eof table) r)) before (w ∷ after) (widened-clear issued lasts before w after S f u)))
+      (λ u. met-by-none granted (lastGiven table w)
+      (all-left (λ r. not (against w (lastGiven table w) r)) before (w ∷ after) (widened-clear issued lasts before w after S f u)))
 
 -- what is held is not overtaken
 not-waiting : (g r : Lock) → T (held g) → T (not (overtakes r g))
@@ -102,8 +102,8 @@ module _ (g : Lock → Lock) (milder : (r : Lock) → Milder r (g r)) where
 
 change-in-order : (t : Table) (m : Message) → T (inOrder (t .locks)) → T (inOrder (change t m .locks))
 unfolding change
-change-in-order t (Request c s m f l) i =
-    let new : Lock = asking (t .issued + 1) c s m f l in
+change-in-order t (Request c s m f l k) i =
+    let new : Lock = asking (t .issued + 1) c s m f l k in
     pairs-put (λ a b. not (overtakes b a)) (t .locks) new [] (rw append-nil i) (all-of (λ r. not (overtakes new r)) (λ r. tt) (t .locks)) tt
 change-in-order t (Acknowledge c h) i = changed-in-order (λ r. cond (mayAcknowledge c h r) (inState canceling r) r) (acknowledged-milder c h) (t .locks) i
 change-in-order t (Downgrade c h) i = changed-in-order (λ r. cond (mayDowngrade c h r) (downgraded r) r) (downgraded-milder c h) (t .locks) i

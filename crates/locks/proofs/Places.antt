@@ -17,7 +17,7 @@ use Rattle.table.specs.declared.Lock.{Lock}
 use Rattle.table.specs.Table.{Table, handleOf, nth, blank}
 use Rattle.table.proofs.Facts.{Sound}
 use Rattle.locks.specs.Conflicts.{hurries}
-use Rattle.locks.specs.Settle.{Settled, given, nextNumber, widest, grant, free, granting, turn, turns, revoked, settle}
+use Rattle.locks.specs.Settle.{Settled, given, nextNumber, lastGiven, grant, free, granting, turn, turns, revoked, settle}
 use Rattle.locks.proofs.Walk.{turns-sound}
 use Rattle.locks.proofs.Revoked.{handle-same}
 
@@ -48,7 +48,7 @@ grant-handle : (lasts : List ℕ) (rs : List Lock) (w : Lock) → handleOf (gran
 unfolding grant
 grant-handle lasts rs w =
     by-cond (λ (x : Lock). handleOf x ≡ handleOf w) (any (hurries w) rs)
-    (given w canceling (nextNumber lasts w) (w .last)) (given w granted (nextNumber lasts w) (widest w eof rs)) (λ u. refl) (λ u. refl)
+    (given w canceling (nextNumber lasts w) (w .last)) (given w granted (nextNumber lasts w) (lastGiven rs w)) (λ u. refl) (λ u. refl)
 
 module _ (t : Table) where
   -- up to its turn

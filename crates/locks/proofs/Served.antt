@@ -32,9 +32,9 @@ at-most-one true = omega arith
 at-most-one false = omega arith
 
 -- A request is added
-module _ (issued : ℕ) (lasts : List ℕ) (rs : List Lock) (c s m f l : ℕ) (S : Sound issued lasts rs) where
+module _ (issued : ℕ) (lasts : List ℕ) (rs : List Lock) (c s m f l : ℕ) (k : Bool) (S : Sound issued lasts rs) where
   abbrev new : Lock
-  new = asking (issued + 1) c s m f l
+  new = asking (issued + 1) c s m f l k
 
   older : (r : Lock) → T (valid issued lasts r) → T (valid (issued + 1) lasts r)
   older r t = →valid (issued + 1) lasts r (still-valid r (omega arith) (omega arith) (valid→ issued lasts r t))
@@ -73,6 +73,8 @@ module _ (issued : ℕ) (lasts : List ℕ) (rs : List Lock) (c s m f l : ℕ) (S
           state-hi = omega arith;
           ordered = fl;
           ends = l-hi;
+          mark-of = λ h. at-most-one k;
+          mark-no = λ h. absurd h;
           number-of = λ h. absurd h;
           number-no = λ h. refl;
         })) tt);
@@ -103,11 +105,11 @@ Good t = Sound (t .issued) (t .lasts) (t .locks)
 
 pub change-sound : (t : Table) (m : Message) → T (eqb (refusal t m) 0) → Good t → Good (change t m)
 unfolding change rules
-change-sound t (Request c s m f l) e S =
+change-sound t (Request c s m f l k) e S =
     let u = unbroken (requestRules t c s m f l) tt e in
     let w : T (knownMode m) = undo (knownMode m) (search (and-l, and-r) depth 8) in
     let z : T (range f l) = undo (range f l) (search (and-l, and-r) depth 8) in
-    asked (t .issued) (t .lasts) (t .locks) c s m f l S
+    asked (t .issued) (t .lasts) (t .locks) c s m f l k S
     (nltb→le maxClient c (search (and-l))) (nltb→le maxStripe s (search (and-l, and-r))) (search (and-l, leb→le)) (search (and-r, leb→le))
     (leb→le f l (and-l (leb f l) (leb l eof) z)) (leb→le l eof (and-r (leb f l) (leb l eof) z))
     (nleb→lt (highest width) (t .issued) (search (and-l, and-r) depth 8)) (nleb→lt maxRecords (length (t .locks)) (search (and-l, and-r) depth 16))

@@ -21,7 +21,7 @@ use Rattle.table.proofs.Zeros.{empty-sound}
 use Rattle.locks.specs.declared.Message.{Message}
 use Rattle.locks.specs.declared.Message.the-variants.{Request, Acknowledge, Downgrade, Release}
 use Rattle.locks.specs.Conflicts.{hurries}
-use Rattle.locks.specs.Settle.{Event, grantEvent, revocation, given, inState, nextNumber, lastsAfter, widest, grant, turns, wanted, revocations, settle}
+use Rattle.locks.specs.Settle.{Event, grantEvent, revocation, given, inState, nextNumber, lastsAfter, lastGiven, grant, turns, wanted, revocations, settle}
 use Rattle.locks.specs.Refusals.{rules}
 use Rattle.locks.specs.Serve.{Outcome, change, answered, served, serve}
 use Rattle.locks.specs.Session.{tableAfter, events, writeGrant, numbers}
@@ -82,8 +82,8 @@ granted-one : (s : ℕ) (lasts : List ℕ) (rs : List Lock) (w : Lock) → w .st
 unfolding grant
 granted-one s lasts rs w h =
     by-cond (λ (g : Lock). Counted s (getD lasts s 0) (lastsAfter lasts w) (grantEvent g ∷ [])) (any (hurries w) rs)
-    (given w canceling (nextNumber lasts w) (w .last)) (given w granted (nextNumber lasts w) (widest w eof rs))
-    (λ t. one s lasts w canceling (w .last) h) (λ t. one s lasts w granted (widest w eof rs) h)
+    (given w canceling (nextNumber lasts w) (w .last)) (given w granted (nextNumber lasts w) (lastGiven rs w))
+    (λ t. one s lasts w canceling (w .last) h) (λ t. one s lasts w granted (lastGiven rs w) h)
 
 no-number : (s : ℕ) (rs : List Lock) → numbers s (map (λ r. revocation (inState asked r)) rs) ≡ []
 no-number s [] = refl
@@ -108,7 +108,7 @@ settle-counted t s S =
 
 same-lasts : (t : Table) (m : Message) → change t m .lasts ≡ t .lasts
 unfolding change
-same-lasts t (Request c s m f l) = refl
+same-lasts t (Request c s m f l k) = refl
 same-lasts t (Acknowledge c h) = refl
 same-lasts t (Downgrade c h) = refl
 same-lasts t (Release c h) = refl

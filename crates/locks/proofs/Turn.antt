@@ -17,11 +17,11 @@ use Rattle.modes.specs.Codes.{granted, canceling}
 use Rattle.modes.specs.Conflict.{conflict}
 use Rattle.modes.proofs.Rule.{harmless, Harmless}
 use Rattle.table.specs.declared.Lock.{Lock}
-use Rattle.table.specs.Table.{handleOf, waits, held, writes}
+use Rattle.table.specs.Table.{handleOf, waits, held, writes, marked}
 use Rattle.table.specs.Sound.{valid, differ, share, agree, room, stripes, wants}
 use Rattle.table.proofs.Facts.{Valid, valid→, →valid, still-valid, Clear, Friends, →friends, friends-sym, Sound}
 use Rattle.locks.specs.Conflicts.{other, against, conflicts, obstacle, hurries}
-use Rattle.locks.specs.Settle.{given, nextNumber, lastsAfter, widest, grant, free}
+use Rattle.locks.specs.Settle.{given, nextNumber, lastsAfter, widest, lastGiven, grant, free}
 use Rattle.locks.proofs.Widening.{clear, at-most, at-least}
 use Rattle.locks.proofs.Numbering.{next-is, lasts-length, lasts-at, lasts-own}
 
@@ -61,6 +61,8 @@ module _ (issued : ℕ) (lasts : List ℕ) (w : Lock) (s l : ℕ) where
     state-hi = k;
     ordered = i;
     ends = j;
+    mark-of = λ t. lit≤ tt;
+    mark-no = λ t. refl;
     number-of = λ t.
         let u : T (writes w) = search (and-r) in
         let n = next-is lasts w u in
@@ -205,18 +207,23 @@ module _ (issued : ℕ) (lasts : List ℕ) (before : List Lock) (w : Lock) (afte
     quiet u =
         all-imp2 (λ r. not (obstacle w r)) (λ r. not (hurries w r)) (λ r. not (conflicts w r)) (no-conflict w) table unhindered (none (hurries w) table u)
 
-    -- the widened range conflicts with no other record
-    pub widened-clear : T (not (any (hurries w) table)) → T (all (λ r. not (against w (widest w eof table) r)) table)
-    widened-clear u = clear w eof table (widest w eof table) (le-refl (widest w eof table)) (quiet u)
+    -- the last byte that is given lies between the one asked and the greatest, so the range conflicts with no other record
+    given-between : T (not (any (hurries w) table)) → (w .last ≤ lastGiven table w) × (lastGiven table w ≤ widest w eof table)
+    given-between u =
+        let h = at-least w eof table (w-valid-here .ends) (quiet u) in
+        by-cond (λ (l : ℕ). (w .last ≤ l) × (l ≤ widest w eof table)) (marked w) (w .last) (widest w eof table) (λ _. (le-refl (w .last), h)) (λ _. (h, le-refl (widest w eof table)))
+
+    pub widened-clear : T (not (any (hurries w) table)) → T (all (λ r. not (against w (lastGiven table w) r)) table)
+    widened-clear u = clear w eof table (lastGiven table w) (given-between u .1) (quiet u)
 
     pub grant-sound : Sound issued (lastsAfter lasts w) (before ++ (grant lasts table w ∷ after))
     unfolding grant
     grant-sound =
         by-cond (λ (g : Lock). Sound issued (lastsAfter lasts w) (before ++ (g ∷ after))) (any (hurries w) table)
-        (given w canceling (nextNumber lasts w) (w .last)) (given w granted (nextNumber lasts w) (widest w eof table))
+        (given w canceling (nextNumber lasts w) (w .last)) (given w granted (nextNumber lasts w) (lastGiven table w))
         (λ u. placed issued lasts before w after 3 (w .last) S w-waits (lit≤ tt) (lit≤ tt) (w-valid-here .ordered) (w-valid-here .ends)
         (all-out (Free w (w .last)) before w after (all-imp (λ r. not (obstacle w r)) (Free w (w .last)) (held-free w) table unhindered)))
-        (λ u. placed issued lasts before w after 1 (widest w eof table) S w-waits (lit≤ tt) (lit≤ tt)
-        (le-trans (w-valid-here .ordered) (at-least w eof table (w-valid-here .ends) (quiet u))) (at-most w eof table)
-        (all-out (Free w (widest w eof table)) before w after
-        (all-imp (λ r. not (against w (widest w eof table) r)) (Free w (widest w eof table)) (λ r c. imp-i (held r) (not (against w (widest w eof table) r)) (λ h. c)) table (widened-clear u))))
+        (λ u. placed issued lasts before w after 1 (lastGiven table w) S w-waits (lit≤ tt) (lit≤ tt)
+        (le-trans (w-valid-here .ordered) (given-between u .0)) (le-trans (given-between u .1) (at-most w eof table))
+        (all-out (Free w (lastGiven table w)) before w after
+        (all-imp (λ r. not (against w (lastGiven table w) r)) (Free w (lastGiven table w)) (λ r c. imp-i (held r) (not (against w (lastGiven table w) r)) (λ h. c)) table (widened-clear u))))

@@ -46,7 +46,7 @@ namingRules t c h may =
     ∷ []
 
 unfoldable pub rules : Table → Message → List Rule
-rules t (Request c s m f l) = requestRules t c s m f l
+rules t (Request c s m f l k) = requestRules t c s m f l
 rules t (Acknowledge c h) = namingRules t c h (mayAcknowledge c h)
 rules t (Downgrade c h) = namingRules t c h (mayDowngrade c h)
 rules t (Release c h) = namingRules t c h (named c h)

@@ -1,6 +1,6 @@
 -- Serving a call on a sound table, and one message.
 use Prim.Native.Nat.{ℕ, _+_}
-use mathlib.Core.Bool.{not, cond}
+use mathlib.Core.Bool.{Bool, not, cond}
 use mathlib.Core.List.{List, [], _∷_, _++_, map}
 use lib.Dec.{eqb}
 use Rattle.common.specs.Counters.{handle, number}
@@ -15,9 +15,9 @@ use Rattle.locks.specs.declared.Message.the-variants.{Request, Acknowled
 use Rattle.locks.specs.Settle.{Event, Settled, settle, inState}
 use Rattle.locks.specs.Refusals.{named, mayAcknowledge, mayDowngrade, rules}
 
--- A new record, which waits
-abbrev pub asking : ℕ → ℕ → ℕ → ℕ → ℕ → ℕ → Lock
-asking h c s m f l =
+-- A new record, which waits; its mark is 1 where the request is marked
+abbrev pub asking : ℕ → ℕ → ℕ → ℕ → ℕ → ℕ → Bool → Lock
+asking h c s m f l k =
     record {
       handle = handle h;
       client = c;
@@ -27,6 +27,7 @@ asking h c s m f l =
       number = number 0;
       first = f;
       last = l;
+      mark = cond k 1 0;
     }
 
 abbrev pub downgraded : Lock → Lock
@@ -34,15 +35,15 @@ downgraded r = remade r nbw (r .state) (numberOf r) (r .last)
 
 -- "An accepted message does its own change (add a waiting record; state 2 to 3; mode to NBW; remove the record)."
 unfoldable pub change : Table → Message → Table
-change t (Request c s m f l) =
-    record { issued = t .issued + 1; lasts = t .lasts; locks = t .locks ++ asking (t .issued + 1) c s m f l ∷ [] }
+change t (Request c s m f l k) =
+    record { issued = t .issued + 1; lasts = t .lasts; locks = t .locks ++ asking (t .issued + 1) c s m f l k ∷ [] }
 change t (Acknowledge c h) = withLocks t (map (λ r. cond (mayAcknowledge c h r) (inState canceling r) r) (t .locks))
 change t (Downgrade c h) = withLocks t (map (λ r. cond (mayDowngrade c h r) (downgraded r) r) (t .locks))
 change t (Release c h) = withLocks t (keep (λ r. not (named c h r)) (t .locks))
 
 -- "all four messages answer the handle they made or named"
 unfoldable pub answered : Table → Message → ℕ
-answered t (Request c s m f l) = t .issued + 1
+answered t (Request c s m f l k) = t .issued + 1
 answered t (Acknowledge c h) = h
 answered t (Downgrade c h) = h
 answered t (Release c h) = h

@@ -21,7 +21,7 @@ events t (m ∷ ms) = serve t m .events ++ events (serve t m .table) ms
 
 -- "A handle is taken by each accepted request": those that the messages are answered, in order
 abbrev pub requests : Message → Bool
-requests (Request c s m f l) = true
+requests (Request c s m f l k) = true
 requests (Acknowledge c h) = false
 requests (Downgrade c h) = false
 requests (Release c h) = false

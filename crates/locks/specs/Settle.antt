@@ -9,7 +9,7 @@ use Rattle.common.specs.Tests.{any, keep}
 use Rattle.modes.specs.Codes.{granted, asked, canceling}
 use Rattle.modes.specs.Conflict.{conflict}
 use Rattle.table.specs.declared.Lock.{Lock}
-use Rattle.table.specs.Table.{Table, numberOf, remade, nth, waits, writes}
+use Rattle.table.specs.Table.{Table, numberOf, remade, nth, waits, writes, marked}
 use Rattle.locks.specs.Conflicts.{other, conflicts, obstacle, hurries}
 
 -- An event is of kind 1, a grant, or 2, a revocation, and shows the record as it then is
@@ -46,13 +46,18 @@ nextNumber lasts w = cond (writes w) (getD lasts (w .stripe) 0 + 1) 0
 abbrev pub lastsAfter : List ℕ → Lock → List ℕ
 lastsAfter lasts w = cond (writes w) (set lasts (w .stripe) (getD lasts (w .stripe) 0 + 1)) lasts
 
+-- The last byte of a grant that nothing hurries: a marked request's "grant ends where it asked"; any other's is "the greatest one up to EOF for which
+-- the range conflicts with no held lock and no other waiting request"
+abbrev pub lastGiven : List Lock → Lock → ℕ
+lastGiven rs w = cond (marked w) (w .last) (widest w eof rs)
+
 -- What w becomes when it is granted among the records rs: "canceling, with the asked range (early revocation)"; "otherwise in state 1, first
--- byte as asked, last byte the greatest one up to EOF for which the range conflicts with no held lock and no other waiting request"
+-- byte as asked", and the last byte above
 unfoldable pub grant : List ℕ → List Lock → Lock → Lock
 grant lasts rs w =
     cond (any (hurries w) rs)
     (given w canceling (nextNumber lasts w) (w .last))
-    (given w granted (nextNumber lasts w) (widest w eof rs))
+    (given w granted (nextNumber lasts w) (lastGiven rs w))
 
 -- w waits, and nothing keeps it waiting
 abbrev pub free : List Lock → Lock → Bool

@@ -13,7 +13,7 @@ pub const KIND_BYTES: usize = 4;
 
 pub const EVENT_BYTES: usize = KIND_BYTES + SHOWN_BYTES;
 
-// A message of a client. "There are four messages, each with its own fields."
+// A message of a client. "There are four messages, each with its own fields." A marked request's grant ends where it asked.
 pub enum Message {
     Request {
         client: u64,
@@ -21,6 +21,7 @@ pub enum Message {
         mode: u64,
         first: u64,
         last: u64,
+        marked: bool,
     },
     Acknowledge {
         client: u64,

@@ -17,7 +17,7 @@ use Rattle.table.specs.declared.Lock.{Lock}
 use Rattle.table.specs.Table.{Table, waits, held, writes, numberOf, remade, stripeCount}
 use Rattle.table.specs.Sound.{valid, room, wants, sound}
 use Rattle.table.specs.Bytes.{lockLayout, lockFields, lastsLayout}
-use Rattle.table.specs.Places.{LockFits}
+use Rattle.table.specs.Places.{ShownFits, LockFits}
 use Rattle.table.proofs.Facts.{Valid, valid→, Sound, sound→}
 use Rattle.table.proofs.Encoding.{FitTable}
 
@@ -27,6 +27,10 @@ remade-fits m s r q h k e f = rw e (f .0, (f .1 .0, (f .1 .1 .0, (h, (k, (f .1 .
 
 pub state-fits : (s : ℕ) (r q : Lock) → s < 256 ^ 4 → q ≡ remade r (r .mode) s (numberOf r) (r .last) → LockFits r → LockFits q
 state-fits s r q k e f = remade-fits (r .mode) s r q (f .1 .1 .1 .0) k e f
+
+-- what is shown of a record that fits
+pub shown-fits : (r : Lock) → LockFits r → ShownFits r
+shown-fits r f = (f .0, (f .1 .0, (f .1 .1 .0, (f .1 .1 .1 .0, (f .1 .1 .1 .1 .0, (f .1 .1 .1 .1 .1 .0, (f .1 .1 .1 .1 .1 .1 .0, (f .1 .1 .1 .1 .1 .1 .1 .0, tt))))))))
 
 module _ (issued : ℕ) (lasts : List ℕ) (rs : List Lock) (S : Sound issued lasts rs) where
   last-small : (s : ℕ) → s < stripeCount → getD lasts s 0 ≤ highest width
