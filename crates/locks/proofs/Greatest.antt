@@ -4,13 +4,13 @@ use native.Mathlib.Omega.{arith}
 use native.Mathlib.Nat.{le-refl}
 use mathlib.Core.Bool.{not}
 use mathlib.Core.List.{List, _∷_, _++_}
-use mathlib.Core.Path.{_≡_, sym, ap, subst, _∙_}
+use mathlib.Core.Path.{_≡_, refl, sym, ap, subst, _∙_}
 use lib.Dec.{T}
 use lib.ListN.{length, take, drop}
 use lib.Seq.{split-at}
 use Rattle.common.specs.Ranges.{eof}
 use Rattle.common.specs.Tests.{any}
-use Rattle.common.proofs.Bools.{cond-false}
+use Rattle.common.proofs.Bools.{by-cond, cond-true, cond-false}
 use Rattle.common.proofs.Listed.{nobody}
 use Rattle.modes.specs.Codes.{granted, canceling}
 use Rattle.table.specs.declared.Lock.{Lock}
@@ -70,3 +70,10 @@ turn-greatest t S n h f u k =
 
     e : rs ≡ take n rs ++ (w ∷ drop (suc n) rs)
     e = split-at rs n blank (subst (λ (k : ℕ). n < k) (sym (R .long)) h)
+
+-- A marked request's grant ends where it asked, in whatever state
+pub grant-exact : (lasts : List ℕ) (rs : List Lock) (w : Lock) → T (marked w) → grant lasts rs w .last ≡ w .last
+unfolding grant
+grant-exact lasts rs w k =
+    by-cond (λ (g : Lock). g .last ≡ w .last) (any (hurries w) rs) (given w canceling (nextNumber lasts w) (w .last)) (given w granted (nextNumber lasts w) (lastGiven rs w))
+    (λ u. refl) (λ u. cond-true (marked w) (w .last) (widest w eof rs) k)

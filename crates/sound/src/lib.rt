@@ -19,7 +19,7 @@ ghost use lib.ListN.{length};
 ghost use Rattle.common.specs.Counters.{width};
 ghost use Rattle.common.specs.Tests.{all, pairs};
 ghost use Rattle.table.specs.Table.{waits, maxRecords};
-ghost use Rattle.table.specs.Sound.{valid, numbered, differ, room, stripes};
+ghost use Rattle.table.specs.Sound.{valid, wellMarked, numbered, differ, room, stripes};
 ghost use Rattle.table.specs.Bytes.{tableSize, tableOf, soundTableBytes};
 ghost use Rattle.table.specs.Places.{lockAt};
 ghost use Rattle.sound.specs.Parts.{Sized, Tallied, Faces, eachSound, friendly, owned, smallerYields};
@@ -44,6 +44,16 @@ fn is_numbered(t: &[u8], l: Lock) -> bool
     (1 <= number) & (number <= last.0)
 }
 
+// Says whether a record's mark is one that it may have.
+fn is_marked(l: Lock) -> bool
+    ensures { λ r. ⌜ r ≡ wellMarked l ⌝ }
+{
+    if l.state == WAITING {
+        return l.mark <= 1;
+    }
+    l.mark == 0
+}
+
 // Says whether a record is valid by itself.
 fn is_valid(t: &[u8], issued: u64, l: Lock) -> bool
     requires { ⌜ length (now t) ≡ tableSize width ⌝ }
@@ -56,7 +66,8 @@ fn is_valid(t: &[u8], issued: u64, l: Lock) -> bool
         & (l.stripe <= MAX_STRIPE)
         & modes::known_mode(l.mode)
         & modes::known_state(l.state)
-        & range;
+        & range
+        & is_marked(l);
     if !fields {
         return false;
     }
