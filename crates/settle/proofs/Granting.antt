@@ -6,6 +6,7 @@ use mathlib.Core.List.{List, [], _∷_, _++_}
 use mathlib.Core.Path.{_≡_, refl, sym, ap, ap₂, subst, _∙_}
 use lib.Dec.{T, not-T, le→leb, ltb, ltb→lt}
 use lib.ListN.{getD, take, drop}
+use borrow.Author.Tests.{eq-eqb, ne-eqb}
 use lib.Seq.{split-at}
 use Rattle.common.specs.Counters.{width}
 use Rattle.common.specs.Ranges.{eof}
@@ -17,12 +18,12 @@ use Rattle.table.specs.declared.Lock.{Lock}
 use Rattle.table.specs.Table.{Table, blank, handleOf, numberOf, waits, stripeCount}
 use Rattle.table.specs.Sound.{valid, agree}
 use Rattle.table.specs.Bytes.{locksOf, tableOf}
-use Rattle.table.specs.Places.{lockAt, ShownFits, Holds, Good, Moded, moded, Past, withLock}
+use Rattle.table.specs.Places.{lockAt, LockFits, Holds, Good, Moded, moded, Past, withLock}
 use Rattle.table.proofs.Facts.{Valid, valid→, Sound, sound→}
 use Rattle.table.proofs.Fitting.{lock-fits}
 use Rattle.table.proofs.Records.{inside, nth-is}
 use Rattle.locks.specs.Conflicts.{conflicts, hurries}
-use Rattle.locks.specs.Settle.{Settled, grantEvent, given, widest, nextNumber, lastsAfter, grant, free, granting, turn}
+use Rattle.locks.specs.Settle.{Settled, grantEvent, given, widest, lastGiven, nextNumber, lastsAfter, grant, free, granting, turn}
 use Rattle.locks.proofs.Turn.{w-valid-here, grant-sound}
 use Rattle.settle.specs.Posts.{grantedAs, Took, Due, putEvents, fresh, Did}
 
@@ -38,15 +39,22 @@ good-moded n t G = record {
 number-is : (lasts : List ℕ) (rs : List Lock) (w : Lock) → numberOf (grant lasts rs w) ≡ nextNumber lasts w
 unfolding grant
 number-is lasts rs w =
-    by-cond (λ (g : Lock). numberOf g ≡ nextNumber lasts w) (any (hurries w) rs) (given w canceling (nextNumber lasts w) (w .last)) (given w granted (nextNumber lasts w) (widest w eof rs)) (λ u. refl) (λ u. refl)
+    by-cond (λ (g : Lock). numberOf g ≡ nextNumber lasts w) (any (hurries w) rs) (given w canceling (nextNumber lasts w) (w .last)) (given w granted (nextNumber lasts w) (lastGiven rs w)) (λ u. refl) (λ u. refl)
 
 -- what w, read as x, becomes, by the answer b
 module _ (rs : List Lock) (w x : Lock) (v : ℕ) (b : Bool) (f : w ≡ x) (e : b ≡ any (hurries x) rs) where
   pub as-early : (r : Lock) → b ≡ true → r ≡ given w canceling v (w .last) → r ≡ grantedAs rs w v
   as-early r g q = rw (f, ← e, g, ← f) q
 
-  pub as-wide : (r : Lock) (l : ℕ) → b ≡ false → l ≡ widest x eof rs → r ≡ given w granted v l → r ≡ grantedAs rs w v
-  as-wide r l g p q = rw (f, ← e, g, ← p, ← f) q
+  wide-as : (l : ℕ) → b ≡ false → l ≡ lastGiven rs w → given w granted v l ≡ grantedAs rs w v
+  wide-as l g p = ap (given w granted v) p ∙ ap (λ (y : Bool). cond y (given w canceling v (w .last)) (given w granted v (lastGiven rs w))) (sym g ∙ e ∙ ap (λ (y : Lock). any (hurries y) rs) (sym f))
+
+  pub as-marked : (r : Lock) → b ≡ false → (w .mark ≡ 0 → ⊥) → r ≡ given w granted v (w .last) → r ≡ grantedAs rs w v
+  as-marked r g p q = q ∙ wide-as (w .last) g (sym (ap (λ (y : Bool). cond (not y) (w .last) (widest w eof rs)) (ne-eqb (w .mark) 0 p)))
+
+  pub as-wide : (r : Lock) (l : ℕ) → b ≡ false → w .mark ≡ 0 → l ≡ widest x eof rs → r ≡ given w granted v l → r ≡ grantedAs rs w v
+  as-wide r l g p h q =
+      q ∙ wide-as l g (h ∙ ap (λ (y : Lock). widest y eof rs) (sym f) ∙ sym (ap (λ (y : Bool). cond (not y) (w .last) (widest w eof rs)) (eq-eqb (w .mark) 0 p)))
 
 -- a record with a smaller handle does not hurry w
 earlier : (w r : Lock) → T (agree r w) → T (not (hurries w r))
@@ -86,9 +94,9 @@ module _ (n i : ℕ) (w : Lock) (t : List ℕ) (D : Due n i w t) where
   pub due-stripe : w .stripe < stripeCount
   due-stripe = let v = valid-here in omega arith
 
-  due-fits : ShownFits (grant lasts rs w)
+  due-fits : LockFits (grant lasts rs w)
   due-fits =
-      subst (λ (l : List Lock). ShownFits (grant lasts l w)) (sym split)
+      subst (λ (l : List Lock). LockFits (grant lasts l w)) (sym split)
       (lock-fits (tableOf width t .issued) (lastsAfter lasts w) (take i rs ++ (grant lasts around w ∷ drop (suc i) rs)) after (grant lasts around w)
       (all-at (valid (tableOf width t .issued) (lastsAfter lasts w)) (take i rs) (grant lasts around w) (drop (suc i) rs) (after .each)))
     where
@@ -120,8 +128,8 @@ module _ (n i : ℕ) (w : Lock) (t : List ℕ) (D : Due n i w t) where
       unfolding grant
       as-granted = q ∙ ap₂ (λ (l : List Lock) (m : ℕ). grantedAs l w m) same-locks (K .number)
 
-      pub granted-fits : ShownFits g
-      granted-fits = subst ShownFits (sym as-granted) due-fits
+      pub granted-fits : LockFits g
+      granted-fits = subst LockFits (sym as-granted) due-fits
 
       pub due-did : (k : ℕ) (b u′ c : List ℕ) → Holds n (withLock (tableOf width u) i g) u′ → c ≡ putEvents b k (grantEvent g ∷ []) → Did n k (turn i (fresh (tableOf width t))) b (k + 1) u′ c
       unfolding turn

@@ -15,7 +15,7 @@ use Rattle.modes.specs.Codes.{granted}
 use Rattle.table.specs.declared.Lock.{Lock}
 use Rattle.table.specs.Table.{numberOf}
 use Rattle.table.specs.Bytes.{locksOf, tableOf}
-use Rattle.table.specs.Places.{lockAt, ShownFits, Shape, Holds, withLock}
+use Rattle.table.specs.Places.{lockAt, LockFits, Shape, Holds, withLock}
 use Rattle.table.proofs.Fitting.{state-fits}
 use Rattle.table.proofs.Records.{nth-is}
 use Rattle.locks.specs.Settle.{revocation, given, presses, wanted}
@@ -42,7 +42,7 @@ module _ (n i : ℕ) (t : List ℕ) (S : Shape n t) (h : i < n) where
     pub revoke-free : (k : ℕ) (b : List ℕ) → not x ≡ true → Did n k (revokeAt i (tableOf width t)) b k t b
     revoke-free k b q = spared k b (ap (λ (y : Bool). eqb (r .state) granted && y) (sym p ∙ not-true x q) ∙ and-false (eqb (r .state) granted))
 
-    pub revoke-wanted : (s : ℕ) (v : Lock) → s ≡ r .state → s ≡ 1 → not x ≡ false → v ≡ r → ShownFits v → Wanted n i v t
+    pub revoke-wanted : (s : ℕ) (v : Lock) → s ≡ r .state → s ≡ 1 → not x ≡ false → v ≡ r → LockFits v → Wanted n i v t
     revoke-wanted s v e z q f g = record {
       shape = S;
       place = h;
@@ -56,7 +56,7 @@ unfolding revokeAt
 revoke-room n i k r t b W h = rw (W .is, true-is (wanted (locksOf width t) r) (W .wanted)) at h
 
 module _ (n i : ℕ) (r q : Lock) (t : List ℕ) (W : Wanted n i r t) (e : q ≡ given r 2 (numberOf r) (r .last)) where
-  pub ask-fits : ShownFits q
+  pub ask-fits : LockFits q
   ask-fits = state-fits 2 r q (omega arith) e (W .fits)
 
   pub ask-did : (k : ℕ) (b u c : List ℕ) → Holds n (withLock (tableOf width t) i q) u → c ≡ putEvents b k (revocation q ∷ []) → Did n k (revokeAt i (tableOf width t)) b (k + 1) u c

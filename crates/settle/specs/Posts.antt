@@ -6,21 +6,20 @@ use mathlib.Core.List.{List, [], _∷_, map}
 use lib.Dec.{T}
 use lib.ListN.{length}
 use Rattle.common.specs.Counters.{width}
-use Rattle.common.specs.Ranges.{eof}
 use Rattle.common.specs.Tests.{any}
 use Rattle.xdr.specs.Array.{putElements}
 use Rattle.modes.specs.Codes.{granted, asked, canceling}
 use Rattle.table.specs.declared.Lock.{Lock}
 use Rattle.table.specs.Table.{Table, nth}
 use Rattle.table.specs.Bytes.{locksOf, tableOf}
-use Rattle.table.specs.Places.{ShownFits, Shape, Holds, Good, withLock}
+use Rattle.table.specs.Places.{LockFits, Shape, Holds, Good, withLock}
 use Rattle.locks.specs.Conflicts.{hurries}
-use Rattle.locks.specs.Settle.{Event, Settled, given, inState, revocation, widest, nextNumber, lastsAfter, free, wanted}
+use Rattle.locks.specs.Settle.{Event, Settled, given, inState, revocation, lastGiven, nextNumber, lastsAfter, free, wanted}
 use Rattle.locks.specs.Events.{eventLayout, eventFields}
 
 -- what w becomes when it is granted among the records rs with the number v
 abbrev pub grantedAs : List Lock → Lock → ℕ → Lock
-grantedAs rs w v = cond (any (hurries w) rs) (given w canceling v (w .last)) (given w granted v (widest w eof rs))
+grantedAs rs w v = cond (any (hurries w) rs) (given w canceling v (w .last)) (given w granted v (lastGiven rs w))
 
 abbrev pub withLasts : Table → List ℕ → Table
 withLasts t ls = record { issued = t .issued; lasts = ls; locks = t .locks }
@@ -62,5 +61,5 @@ pub record Wanted (n i : ℕ) (r : Lock) (t : List ℕ) : Type 0 where
   pub shape : Shape n t
   pub place : i < n
   pub is : nth (tableOf width t) i ≡ r
-  pub fits : ShownFits r
+  pub fits : LockFits r
   pub wanted : T (wanted (locksOf width t) r)

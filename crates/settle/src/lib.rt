@@ -32,6 +32,9 @@ fn granted(t: &[u8], n: usize, i: usize, w: Lock, v: Number) -> Lock
     if conflicts::hurried(t, n, i) {
         return table::remade(w, w.mode, CANCELING, v, w.last);
     }
+    if w.mark != 0 {
+        return table::remade(w, w.mode, GRANTED, v, w.last);
+    }
     table::remade(w, w.mode, GRANTED, v, conflicts::reach(t, n, i))
 }
 
