@@ -197,7 +197,7 @@ once issued s W =
     handles-kept = map-append handleOf G (map (inState asked) K) ∙ ap (λ (l : List ℕ). map handleOf G ++ l) (map-map handleOf (inState asked) K) ∙ sym (map-append handleOf G K)
 
 -- Each record gets at most one event in a call, so there are at most 256
-settle-once : (t : Table) → T (sound t) → Once (settle t .events)
+pub settle-once : (t : Table) → T (sound t) → Once (settle t .events)
 unfolding settle
 settle-once t s = once (t .issued) (turns (length (t .locks)) t) (spare t (sound→ t s))
 

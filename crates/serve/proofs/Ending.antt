@@ -12,7 +12,7 @@ use Rattle.common.specs.Refusals.{Rule, firstHit}
 use Rattle.common.proofs.Order.{eq→eqb}
 use Rattle.xdr.specs.Be.{putBe}
 use Rattle.xdr.specs.Array.{putArray}
-use Rattle.table.specs.Table.{Table}
+use Rattle.table.specs.Table.{Table, maxRecords}
 use Rattle.table.specs.Sound.{sound}
 use Rattle.table.specs.Bytes.{tableOf}
 use Rattle.table.specs.Places.{countOf, Shape, Holds, Good}
@@ -21,7 +21,8 @@ use Rattle.locks.specs.declared.Message.{Message}
 use Rattle.locks.specs.Settle.{settle}
 use Rattle.locks.specs.Refusals.{rules}
 use Rattle.locks.specs.Serve.{change, answered, refused, served, serve}
-use Rattle.locks.specs.Events.{eventFields, eventsOver}
+use Rattle.locks.specs.Events.{eventFields, Room, eventsOver}
+use Rattle.locks.proofs.Events.{settle-once}
 use Rattle.locks.proofs.Served.{change-keeps}
 use Rattle.settle.specs.Posts.{Did}
 use Rattle.serve.specs.declared.Answer.{Answer}
@@ -30,6 +31,10 @@ use Rattle.serve.specs.Posts.{OnSound, Ends}
 
 pub counted : (n : ℕ) (t : List ℕ) → n ≡ countOf t → Good (countOf t) t → Good n t
 counted n t e G = subst (λ (m : ℕ). Good m t) (sym e) G
+
+-- room for the events of any call is room for those of this one
+pub events-fit : (n : ℕ) (t b : List ℕ) → Good n t → Room maxRecords b → Room (0 + length (settle (tableOf width t) .events)) b
+events-fit n t b G z = let h = settle-once (tableOf width t) (G .sounds) .at-most in omega arith
 
 -- the events stand there, and then their count
 pub ends : (n h k : ℕ) (X : Table) (b u d c : List ℕ) → Did n 0 (settle X) b k u d → c ≡ putBe 4 d 0 k → Ends h X b (record { refusal = 0; handle = h; events = k }) u c

@@ -5,7 +5,7 @@ use mathlib.Core.Bool.{Bool, true, false, not, _&&_, cond}
 use mathlib.Core.List.{List, [], _∷_, _++_}
 use mathlib.Core.Path.{_≡_, refl, sym, ap, ap₂, subst, _∙_}
 use lib.Dec.{T, not-T, le→leb, ltb, ltb→lt}
-use lib.ListN.{getD, take, drop}
+use lib.ListN.{length, getD, take, drop}
 use borrow.Author.Tests.{eq-eqb, ne-eqb}
 use lib.Seq.{split-at}
 use Rattle.common.specs.Counters.{width}
@@ -24,6 +24,7 @@ use Rattle.table.proofs.Fitting.{lock-fits}
 use Rattle.table.proofs.Records.{inside, nth-is}
 use Rattle.locks.specs.Conflicts.{conflicts, hurries}
 use Rattle.locks.specs.Settle.{Settled, grantEvent, given, widest, lastGiven, nextNumber, lastsAfter, grant, free, granting, turn}
+use Rattle.locks.specs.Events.{Room}
 use Rattle.locks.proofs.Turn.{w-valid-here, grant-sound}
 use Rattle.settle.specs.Posts.{grantedAs, Took, Due, putEvents, fresh, Did}
 
@@ -106,6 +107,15 @@ module _ (n i : ℕ) (w : Lock) (t : List ℕ) (D : Due n i w t) where
   pub due-number : nextNumber lasts w < 256 ^ width
   due-number = subst (λ (m : ℕ). m < 256 ^ width) (number-is lasts rs w) (due-fits .1 .1 .1 .1 .1 .0)
 
+  due-turn : turn i (fresh (tableOf width t)) ≡ granting i (fresh (tableOf width t)) w (grant lasts rs w)
+  unfolding turn
+  due-turn =
+      ap (λ (x : Lock). cond (free rs x) (granting i (fresh (tableOf width t)) x (grant lasts rs x)) (fresh (tableOf width t))) (D .is)
+      ∙ cond-true (free rs w) (granting i (fresh (tableOf width t)) w (grant lasts rs w)) (fresh (tableOf width t)) (D .free)
+
+  pub due-room : (k : ℕ) (b : List ℕ) → Room (k + length (turn i (fresh (tableOf width t)) .events)) b → Room (k + 1) b
+  due-room k b h = subst (λ (s : Settled). Room (k + length (s .events)) b) due-turn h
+
   -- the number v is taken, which leaves u; w becomes g
   module _ (v : ℕ) (u : List ℕ) (g : Lock) (K : Took n w (tableOf width t) v u) where
     same-locks : locksOf width u ≡ rs
@@ -132,10 +142,6 @@ module _ (n i : ℕ) (w : Lock) (t : List ℕ) (D : Due n i w t) where
       granted-fits = subst LockFits (sym as-granted) due-fits
 
       pub due-did : (k : ℕ) (b u′ c : List ℕ) → Holds n (withLock (tableOf width u) i g) u′ → c ≡ putEvents b k (grantEvent g ∷ []) → Did n k (turn i (fresh (tableOf width t))) b (k + 1) u′ c
-      unfolding turn
       due-did k b u′ c H e =
-          subst (λ (s : Settled). Did n k s b (k + 1) u′ c)
-          (sym (ap (λ (x : Lock). cond (free rs x) (granting i (fresh (tableOf width t)) x (grant lasts rs x)) (fresh (tableOf width t))) (D .is)
-          ∙ cond-true (free rs w) (granting i (fresh (tableOf width t)) w (grant lasts rs w)) (fresh (tableOf width t)) (D .free)
-          ∙ ap (λ (x : Lock). granting i (fresh (tableOf width t)) w x) (sym as-granted)))
+          subst (λ (s : Settled). Did n k s b (k + 1) u′ c) (sym (due-turn ∙ ap (λ (x : Lock). granting i (fresh (tableOf width t)) w x) (sym as-granted)))
           (record { table = subst (λ (X : Table). Holds n (withLock X i g) u′) (K .table .says) H; bytes = e; count = refl })

@@ -1,15 +1,16 @@
 -- The turns, place by place: a turn leaves the table as it is, or its request is due; and the turns so far, and one more, are the turns of the rules.
-use Prim.Native.Nat.{ℕ, zero, suc, _+_, _≤_, _<_}
+use Prim.Native.Nat.{ℕ, zero, suc, _+_, _-_, _≤_, _<_}
+use native.Mathlib.Nat.{add-zero, add-suc, le-refl, le-trans}
 use native.Mathlib.Omega.{arith}
 use native.Mathlib.Numerals.{add-one}
 use mathlib.Core.Bool.{Bool, true, false, not, cond}
-use mathlib.Core.List.{List, [], _∷_, append-nil}
-use mathlib.Core.Path.{_≡_, refl, sym, subst, _∙_}
+use mathlib.Core.List.{List, append-nil}
+use mathlib.Core.Path.{_≡_, refl, sym, ap, subst, _∙_}
 use lib.Dec.{T, not-T, eqb→eq}
 use lib.ListN.{length, length-append}
 use Rattle.common.specs.Counters.{width}
 use Rattle.common.specs.Tests.{any}
-use Rattle.common.proofs.Bools.{and-i, by-cond, cond-false, nand-l, nand-r}
+use Rattle.common.proofs.Bools.{and-i, cond-false, nand-l, nand-r}
 use Rattle.common.proofs.Order.{eq→eqb}
 use Rattle.table.specs.declared.Lock.{Lock}
 use Rattle.table.specs.Table.{Table, nth, waits}
@@ -19,10 +20,11 @@ use Rattle.table.specs.Places.{lockAt, Shape, Good}
 use Rattle.table.proofs.Facts.{Sound, sound→, →sound}
 use Rattle.table.proofs.Records.{locks-length, nth-is}
 use Rattle.locks.specs.Conflicts.{obstacle}
-use Rattle.locks.specs.Settle.{Settled, grantEvent, grant, free, granting, turn, turns}
+use Rattle.locks.specs.Settle.{Settled, grant, free, granting, turn, turns}
+use Rattle.locks.specs.Events.{Room}
 use Rattle.locks.proofs.Walk.{Sounds, turns-sound}
 use Rattle.settle.specs.Posts.{Due, fresh, Did}
-use Rattle.settle.proofs.Written.{did-none, andThen, did-then}
+use Rattle.settle.proofs.Written.{did-none, andThen, did-then, did-long}
 
 -- the turn of the record at place i
 module _ (n i : ℕ) (t : List ℕ) (G : Good n t) (h : i < n) where
@@ -79,19 +81,27 @@ turns-more n i j k r X b t c u d D E =
     (did-then n j k r (turns i X) (turn i (fresh (turns i X .table))) b t c u d D
     (subst (λ (Y : Table). Did n k (turn i (fresh Y)) c r u d) (D .table .says) E)))
 
--- so far at most one event for each place
-few : (i : ℕ) (X : Table) → length (turns i X .events) ≤ i
-unfolding turns turn
-few zero X = omega arith
-few (suc i) X =
-    let s : Settled = turns i X in
-    let w : Lock = nth (s .table) i in
-    let g : Lock = grant (s .table .lasts) (s .table .locks) w in
-    let h = few i X in
-    by-cond (λ (x : Settled). length (x .events) ≤ suc i) (free (s .table .locks) w) (granting i s w g) s (λ f. omega (arith, length-append (s .events) (grantEvent g ∷ []))) (λ f. omega arith)
+-- the events of fewer turns are no more
+turn-tells : (i : ℕ) (s : Settled) → length (s .events) ≤ length (turn i s .events)
+turn-tells i s = rw (turn-after i s) (omega (arith, length-append (s .events) (turn i (fresh (s .table)) .events)))
 
-pub turns-few : (n i j k : ℕ) (X : Table) (b t c : List ℕ) → Did n j (turns i X) b k t c → k ≤ j + i
-turns-few n i j k X b t c D = let e = D .count in omega (arith, few i X)
+turns-tell : (i d : ℕ) (X : Table) → length (turns i X .events) ≤ length (turns (i + d) X .events)
+unfolding turns
+turns-tell i zero X = rw (add-zero i) (le-refl (length (turns i X .events)))
+turns-tell i (suc d) X = rw (add-suc i d) (le-trans (turns-tell i d X) (turn-tells (i + d) (turns (i + d) X)))
+
+pub turns-room : (n i j k : ℕ) (X : Table) (b t c : List ℕ) → i < n → Did n j (turns i X) b k t c → Room (j + length (turns n X .events)) b
+    → Room (k + length (turn i (fresh (tableOf width t)) .events)) c
+unfolding turns
+turns-room n i j k X b t c h D z =
+    let s : Settled = turn i (fresh (tableOf width t)) in
+    let e : turn i (turns i X) ≡ andThen (turns i X) s = turn-after i (turns i X) ∙ ap (λ (Y : Table). andThen (turns i X) (turn i (fresh Y))) (sym (D .table .says)) in
+    let q : _≡_ {A = ℕ} (suc i + (n - suc i)) n = omega arith in
+    let m = subst (λ (x : ℕ). length (turn i (turns i X) .events) ≤ length (turns x X .events)) q (turns-tell (suc i) (n - suc i) X) in
+    let a = ap (λ (x : Settled). length (x .events)) e in
+    let l = did-long n j k (turns i X) b t c D in
+    let p = D .count in
+    omega (arith, length-append (turns i X .events) (s .events))
 
 pub turns-good : (n i j k : ℕ) (t b u c : List ℕ) → Good n t → i ≤ n → Did n j (turns i (tableOf width t)) b k u c → Good n u
 turns-good n i j k t b u c G h D = record {

@@ -16,7 +16,7 @@ ghost use mathlib.Core.List.{[], _∷_};
 ghost use Prim.Native.Nat.{_+_, _^_, _<_};
 ghost use lib.ListN.{length};
 ghost use Rattle.common.specs.Counters.{width};
-ghost use Rattle.table.specs.Table.{waits, stripeCount, maxRecords};
+ghost use Rattle.table.specs.Table.{waits, stripeCount};
 ghost use Rattle.table.specs.Bytes.{locksOf, tableOf};
 ghost use Rattle.table.specs.Places.{lockAt, Shape, Good, Moded, Past, First};
 ghost use Rattle.locks.specs.Conflicts.{hurries};
@@ -75,7 +75,7 @@ fn grant(t: &mut [u8], b: &mut [u8], n: usize, i: usize, w: Lock, k: usize)
 
 // Takes the turn of the record at place i, after k events; answers how many events there are now.
 fn turn(t: &mut [u8], b: &mut [u8], n: usize, i: usize, k: usize) -> usize
-    requires { ⌜ Good n (now t) × (i < n) × Room (k + 1) (now b) ⌝ }
+    requires { ⌜ Good n (now t) × (i < n) × Room (k + length (turn i (fresh (tableOf width (now t))) .events)) (now b) ⌝ }
     ensures { λ r. ⌜ Did n k (turn i (fresh (tableOf width (now (t .entry))))) (now (b .entry)) r (now (t .exit)) (now (b .exit)) ⌝ }
 {
     if table::state_at(t, i) != WAITING {
@@ -91,7 +91,7 @@ fn turn(t: &mut [u8], b: &mut [u8], n: usize, i: usize, k: usize) -> usize
 
 // Takes all turns, after j events; answers how many events there are now.
 fn grants(t: &mut [u8], b: &mut [u8], n: usize, j: usize) -> usize
-    requires { ⌜ Good n (now t) × Room (j + n) (now b) ⌝ }
+    requires { ⌜ Good n (now t) × Room (j + length (turns n (tableOf width (now t)) .events)) (now b) ⌝ }
     ensures { λ r. ⌜ Did n j (turns n (tableOf width (now (t .entry)))) (now (b .entry)) r (now (t .exit)) (now (b .exit)) ⌝ }
 {
     let mut k = j;
@@ -166,7 +166,7 @@ fn revocations(t: &mut [u8], b: &mut [u8], n: usize, j: usize) -> usize
 
 // Settles the table of n records, writes the events after j others, and answers how many events there are now.
 pub fn settle(t: &mut [u8], b: &mut [u8], n: usize, j: usize) -> usize
-    requires { ⌜ Good n (now t) × Room (j + maxRecords) (now b) ⌝ }
+    requires { ⌜ Good n (now t) × Room (j + length (settle (tableOf width (now t)) .events)) (now b) ⌝ }
     ensures { λ r. ⌜ Did n j (settle (tableOf width (now (t .entry)))) (now (b .entry)) r (now (t .exit)) (now (b .exit)) ⌝ }
 {
     let k = grants(t, b, n, j);

@@ -2,12 +2,13 @@
 use Prim.Native.Nat.{ℕ, _-_, _≤_}
 use native.Mathlib.Omega.{arith}
 use mathlib.Core.Path.{_≡_}
+use denote.Ref.{now}
 use Rattle.common.specs.Counters.{width}
 use Rattle.table.specs.Bytes.{tableOf}
 use Rattle.locks.specs.Settle.{turns}
 use Rattle.settle.specs.Posts.{Did}
 use Rattle.settle.proofs.Written.{did-long}
-use Rattle.settle.proofs.Turning.{turns-none, turns-more, turns-few, turns-good}
+use Rattle.settle.proofs.Turning.{turns-none, turns-more, turns-room, turns-good}
 use borrow.Author.Needs.{needs}
 use Rattle.settle.proofs.grants.Statement.{statement}
 use Rattle.settle.proofs.grants.Tie as tie
@@ -20,10 +21,9 @@ abbrev μ-loop : tie.MeasureT-loop
 
 turn-requires : tie.Need-turn-requires Inv-loop μ-loop
 turn-requires c κs =
+    let s = c .before .before .before .before .before .before in
     let D = c .before .before .before .loop .inv .1 in
-    let k = turns-few _ _ _ _ _ _ _ _ D in
-    let l = did-long _ _ _ _ _ _ _ D in
-    (search turns-good, search needs, omega arith)
+    (search turns-good, search needs, turns-room _ _ _ _ _ (now (s .args .b)) _ _ (c .before .before .loop-test .taken) D (s .pre .1))
 
 loop-again : tie.Need-loop-again Inv-loop μ-loop
 loop-again c = (search needs, turns-more _ _ _ _ _ _ _ _ _ _ _ (c .before .before .before .before .before .before .before .before .loop .inv .1) (c .before .before .before .before .turn .ensures))
