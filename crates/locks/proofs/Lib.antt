@@ -15,3 +15,4 @@ pub mod Rows
 pub mod Sessions
 pub mod Handles
 pub mod Fitting
+pub mod Weight
