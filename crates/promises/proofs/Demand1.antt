@@ -1,5 +1,6 @@
 -- Demand 1, of all entries together, with an input for each number of each entry's list.
 use Prim.Native.Nat.{ℕ}
+use mathlib.Core.Bool.{false}
 use mathlib.Core.List.{List, [], _∷_, map}
 use mathlib.Core.Path.{_≡_, refl}
 use lib.ListN.{replicate}
@@ -71,14 +72,14 @@ log0-bytes = blank-bytes (logSize width)
 reached : (e : Entry) → Reached e (numbers e)
 unfolding rules
 reached request =
-    short (Request 0 0 1 0 0) tt
-    also absent (Request 0 0 1 0 0) tt
-    also first (Request 64 0 1 0 0) tt 3 refl
-    also first (Request 0 16 1 0 0) tt 4 refl
-    also first (Request 0 0 5 0 0) tt 5 refl
-    also first (Request 0 0 1 5 4) tt 6 refl
-    also on (Request 0 0 1 0 0) tt spent 7 none-left
-    also on (Request 0 0 1 0 0) tt (queued maxRecords) 8 no-room
+    short (Request 0 0 1 0 0 false) tt
+    also absent (Request 0 0 1 0 0 false) tt
+    also first (Request 64 0 1 0 0 false) tt 3 refl
+    also first (Request 0 16 1 0 0 false) tt 4 refl
+    also first (Request 0 0 5 0 0 false) tt 5 refl
+    also first (Request 0 0 1 5 4 false) tt 6 refl
+    also on (Request 0 0 1 0 0 false) tt spent 7 none-left
+    also on (Request 0 0 1 0 0 false) tt (queued maxRecords) 8 no-room
     also tt
 reached acknowledge =
     short (Acknowledge 0 1) tt

@@ -104,7 +104,7 @@ module _ (m : Message) (t b : List ℕ) where
 -- From the list; of a release 10 asks all that 11 does
 listed-in : (m : Message) (X : Table) (a b : Bool) → T (any (eqb (firstHit (rule 1 a ∷ rule 2 b ∷ rules X m))) (0 ∷ numbers (entryOf m)))
 unfolding rules
-listed-in (Request c s k f l) X a b = listed (rule 1 a ∷ rule 2 b ∷ rules X (Request c s k f l))
+listed-in (Request c s m f l k) X a b = listed (rule 1 a ∷ rule 2 b ∷ rules X (Request c s m f l k))
 listed-in (Acknowledge c h) X a b = listed (rule 1 a ∷ rule 2 b ∷ rules X (Acknowledge c h))
 listed-in (Downgrade c h) X a b = listed (rule 1 a ∷ rule 2 b ∷ rules X (Downgrade c h))
 listed-in (Release c h) X a b = go a b (ltb maxClient c) (not (any (λ r. eqb (handleOf r) h) (X .locks))) (not (any (named c h) (X .locks)))

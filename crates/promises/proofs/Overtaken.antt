@@ -96,10 +96,10 @@ module _ (X : Table) (S : Sound (X .issued) (X .lasts) (X .locks)) (w : Lock) (h
 
   unmoved : (m : Message) → Among x (change X m .locks) → x ≡ w
   unfolding change
-  unmoved (Request c s m f l) j = go (in-split x (X .locks) (asking (X .issued + 1) c s m f l ∷ []) j)
+  unmoved (Request c s m f l k) j = go (in-split x (X .locks) (asking (X .issued + 1) c s m f l k ∷ []) j)
     where
-      go : Among x (X .locks) ⊎ Among x (asking (X .issued + 1) c s m f l ∷ []) → x ≡ w
-      go (inl k) = unique (X .locks) (S .apart) x w k h e
+      go : Among x (X .locks) ⊎ Among x (asking (X .issued + 1) c s m f l k ∷ []) → x ≡ w
+      go (inl a) = unique (X .locks) (S .apart) x w a h e
       go (inr (inl d)) =
           let v = valid→ (X .issued) (X .lasts) w (in-all (valid (X .issued) (X .lasts)) w (X .locks) h (S .each)) .handle-hi in
           let n : handleOf x ≡ X .issued + 1 = ap handleOf d in

@@ -3,6 +3,7 @@
 use Prim.Native.Nat.{ℕ, zero, suc, _+_, _≤_}
 use native.Mathlib.Omega.{arith}
 use native.Mathlib.Numerals.{add-one}
+use mathlib.Core.Bool.{false}
 use mathlib.Core.List.{List, [], _∷_, _++_}
 use mathlib.Core.Path.{_≡_, refl, ap, subst, _∙_}
 use lib.Dec.{T}
@@ -66,38 +67,38 @@ spent-sound : T (sound spent)
 unfolding sound room
 spent-sound = tt
 
-pub none-left : outcome (Request 0 0 1 0 0) (tableBytes spent) buffer .refusal ≡ 7
+pub none-left : outcome (Request 0 0 1 0 0 false) (tableBytes spent) buffer .refusal ≡ 7
 unfolding rules
-none-left = gets-own spent (Request 0 0 1 0 0) spent-sound
+none-left = gets-own spent (Request 0 0 1 0 0 false) spent-sound
 
 -- 8 on a table of 256 requests, each added as a request is
 pub queue : ℕ → List Lock
 queue zero = []
-queue (suc n) = queue n ++ (asking (n + 1) 0 0 1 0 0 ∷ [])
+queue (suc n) = queue n ++ (asking (n + 1) 0 0 1 0 0 false ∷ [])
 
 queue-long : (n : ℕ) → length (queue n) ≡ n
 unfolding queue
 queue-long zero = refl
-queue-long (suc n) = let e = queue-long n in omega (arith, length-append (queue n) (asking (n + 1) 0 0 1 0 0 ∷ []))
+queue-long (suc n) = let e = queue-long n in omega (arith, length-append (queue n) (asking (n + 1) 0 0 1 0 0 false ∷ []))
 
 queue-sound : (n : ℕ) → n ≤ maxRecords → Sound n (replicate stripeCount 0) (queue n)
 unfolding queue
 queue-sound zero h = sound→ empty empty-sound
 queue-sound (suc n) h =
-    subst (λ (k : ℕ). Sound k (replicate stripeCount 0) (queue n ++ (asking (n + 1) 0 0 1 0 0 ∷ []))) (add-one n)
-    (asked n (replicate stripeCount 0) (queue n) 0 0 1 0 0 (queue-sound n (omega arith)) (omega arith) (omega arith) (omega arith) (omega arith) (omega arith) (omega arith) (omega arith) (let e = queue-long n in omega arith))
+    subst (λ (k : ℕ). Sound k (replicate stripeCount 0) (queue n ++ (asking (n + 1) 0 0 1 0 0 false ∷ []))) (add-one n)
+    (asked n (replicate stripeCount 0) (queue n) 0 0 1 0 0 false (queue-sound n (omega arith)) (omega arith) (omega arith) (omega arith) (omega arith) (omega arith) (omega arith) (omega arith) (let e = queue-long n in omega arith))
 
 module _ (n : ℕ) where
   pub queued : Table
   queued = record { issued = n; lasts = replicate stripeCount 0; locks = queue n }
 
-  crowded : n ≡ maxRecords → outcome (Request 0 0 1 0 0) (tableBytes queued) buffer .refusal ≡ 8
+  crowded : n ≡ maxRecords → outcome (Request 0 0 1 0 0 false) (tableBytes queued) buffer .refusal ≡ 8
   unfolding rules queued
   crowded e =
-      gets-own queued (Request 0 0 1 0 0) (→sound queued (queue-sound n (omega arith)))
+      gets-own queued (Request 0 0 1 0 0 false) (→sound queued (queue-sound n (omega arith)))
       ∙ rw (queue-long n, le-leb maxRecords n (omega arith), e)
 
-pub no-room : outcome (Request 0 0 1 0 0) (tableBytes (queued maxRecords)) buffer .refusal ≡ 8
+pub no-room : outcome (Request 0 0 1 0 0 false) (tableBytes (queued maxRecords)) buffer .refusal ≡ 8
 no-room = crowded maxRecords refl
 
 -- 10 and 11 on a table of one lock in state 1
@@ -106,7 +107,7 @@ single =
     record {
       issued = 1;
       lasts = replicate stripeCount 0;
-      locks = record { handle = handle 1; client = 0; stripe = 0; mode = 1; state = 1; number = number 0; first = 0; last = 0 } ∷ [];
+      locks = record { handle = handle 1; client = 0; stripe = 0; mode = 1; state = 1; number = number 0; first = 0; last = 0; mark = 0 } ∷ [];
     }
 
 single-sound : T (sound single)

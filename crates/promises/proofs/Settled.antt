@@ -14,12 +14,12 @@ use Rattle.common.proofs.Bools.{and-l, and-r, and-i, imp-e, cond-true, cond-fal
 use Rattle.common.proofs.Order.{below, eq→eqb}
 use Rattle.modes.specs.Codes.{granted, asked, canceling}
 use Rattle.table.specs.declared.Lock.{Lock}
-use Rattle.table.specs.Table.{Table, nth, waits}
+use Rattle.table.specs.Table.{Table, nth, waits, marked}
 use Rattle.table.specs.Sound.{sound}
 use Rattle.table.proofs.Facts.{Sound, sound→}
 use Rattle.locks.specs.declared.Message.{Message}
 use Rattle.locks.specs.Conflicts.{obstacle, hurries}
-use Rattle.locks.specs.Settle.{Event, Settled, grantEvent, revocation, inState, given, nextNumber, widest, grant, free, granting, turn, turns, presses, wanted, revoked, revocations, settle}
+use Rattle.locks.specs.Settle.{Event, Settled, grantEvent, revocation, inState, given, nextNumber, widest, lastGiven, grant, free, granting, turn, turns, presses, wanted, revoked, revocations, settle}
 use Rattle.locks.specs.Refusals.{refusal}
 use Rattle.locks.specs.Serve.{Outcome, change, answered, accepted, refused, serve}
 use Rattle.locks.proofs.Served.{change-sound}
@@ -85,10 +85,13 @@ module _ (U : Table) (S : Sound (U .issued) (U .lasts) (U .locks)) where
       record {
         unhindered = and-r (waits w) (not (any (obstacle w) ps)) f;
         early = λ u. ap grantEvent (cond-true (any (hurries w) ps) short wide u);
-        widened = λ u.
+        widened = λ u k.
             let e : becomes n ≡ wide = cond-false (any (hurries w) ps) short wide u in
-            let G = subst (λ (g : Lock). Greatest w ps (g .last)) e (turn-greatest U S n h f u) in
+            let G = subst (λ (g : Lock). Greatest w ps (g .last)) e (turn-greatest U S n h f u k) in
             (wide .last, ap grantEvent e, record { reaches = G .reaches; ends = G .within-eof; clear = G .clear-of-all; greatest = G .no-further });
+        exact = λ u k.
+            ap grantEvent
+            (cond-false (any (hurries w) ps) short wide u ∙ ap (given w granted (nextNumber (present n .lasts) w)) (cond-true (marked w) (w .last) (widest w eof ps) k));
       }
     where
       w : Lock
@@ -101,7 +104,7 @@ module _ (U : Table) (S : Sound (U .issued) (U .lasts) (U .locks)) where
       short = given w canceling (nextNumber (present n .lasts) w) (w .last)
 
       wide : Lock
-      wide = given w granted (nextNumber (present n .lasts) w) (widest w eof ps)
+      wide = given w granted (nextNumber (present n .lasts) w) (lastGiven ps w)
 
   -- each event of the turns is the grant at a place
   abbrev At : Event → Type 0

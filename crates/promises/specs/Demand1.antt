@@ -96,7 +96,7 @@ numbers write = 12 ∷ 14 ∷ 15 ∷ 18 ∷ []
 numbers restart = 12 ∷ 13 ∷ 16 ∷ []
 
 abbrev pub entryOf : Message → Entry
-entryOf (Request c s m f l) = request
+entryOf (Request c s m f l k) = request
 entryOf (Acknowledge c h) = acknowledge
 entryOf (Downgrade c h) = downgrade
 entryOf (Release c h) = release
@@ -140,7 +140,7 @@ abbrev pub Words : List ℕ → Type 0
 Words ns = T (all (λ n. ltb n (2 ^ 64)) ns)
 
 abbrev pub fields : Message → List ℕ
-fields (Request c s m f l) = c ∷ s ∷ m ∷ f ∷ l ∷ []
+fields (Request c s m f l k) = c ∷ s ∷ m ∷ f ∷ l ∷ []
 fields (Acknowledge c h) = c ∷ h ∷ []
 fields (Downgrade c h) = c ∷ h ∷ []
 fields (Release c h) = c ∷ h ∷ []

@@ -1,6 +1,7 @@
 -- The settled examples P1 to P11 of document 01, as one table. Each row is computed from the rules and compared with what the document prints.
 use Prim.Native.Nat.{ℕ, suc}
 use mathlib.Core.Path.{_≡_, refl}
+use mathlib.Core.Bool.{false}
 use mathlib.Core.List.{List, [], _∷_, _++_, map}
 use lib.ListN.{replicate}
 use Rattle.common.specs.Ranges.{eof}
@@ -101,7 +102,7 @@ unfoldable pub examples : List Row
 examples =
     -- P1
     sending
-    (Request 0 0 2 0 20 ∷ Request 1 0 2 10 30 ∷ Acknowledge 0 1 ∷ Request 2 0 1 0 5 ∷ Release 0 1 ∷ Release 1 2 ∷ [])
+    (Request 0 0 2 0 20 false ∷ Request 1 0 2 10 30 false ∷ Acknowledge 0 1 ∷ Request 2 0 1 0 5 false ∷ Release 0 1 ∷ Release 1 2 ∷ [])
     ((0 ∷ 1 ∷ [])
     ∷ (1 ∷ 1 ∷ 0 ∷ 0 ∷ 2 ∷ 1 ∷ 1 ∷ 0 ∷ eof ∷ [])
     ∷ (0 ∷ 2 ∷ [])
@@ -115,7 +116,7 @@ examples =
     ∷ [])
     -- P2
     ∷ sending
-    (Request 0 0 2 0 eof ∷ Request 1 0 2 0 9 ∷ Request 2 0 2 0 9 ∷ Request 3 0 2 0 9 ∷ Acknowledge 0 1 ∷ [])
+    (Request 0 0 2 0 eof false ∷ Request 1 0 2 0 9 false ∷ Request 2 0 2 0 9 false ∷ Request 3 0 2 0 9 false ∷ Acknowledge 0 1 ∷ [])
     ((0 ∷ 1 ∷ [])
     ∷ (1 ∷ 1 ∷ 0 ∷ 0 ∷ 2 ∷ 1 ∷ 1 ∷ 0 ∷ eof ∷ [])
     ∷ (0 ∷ 2 ∷ [])
@@ -129,7 +130,7 @@ examples =
     ∷ [])
     -- P3
     ∷ sending
-    (Request 0 0 2 0 eof ∷ Request 1 0 1 0 9 ∷ Acknowledge 0 1 ∷ [])
+    (Request 0 0 2 0 eof false ∷ Request 1 0 1 0 9 false ∷ Acknowledge 0 1 ∷ [])
     ((0 ∷ 1 ∷ [])
     ∷ (1 ∷ 1 ∷ 0 ∷ 0 ∷ 2 ∷ 1 ∷ 1 ∷ 0 ∷ eof ∷ [])
     ∷ (0 ∷ 2 ∷ [])
@@ -138,7 +139,7 @@ examples =
     ∷ [])
     -- P4: a BW that is granted while an NBW waits behind it comes canceling over [0,9]
     ∷ sending
-    (Request 0 0 4 0 9 ∷ Request 1 0 3 0 9 ∷ Request 2 0 2 0 9 ∷ Release 0 1 ∷ Downgrade 1 2 ∷ Downgrade 1 2 ∷ [])
+    (Request 0 0 4 0 9 false ∷ Request 1 0 3 0 9 false ∷ Request 2 0 2 0 9 false ∷ Release 0 1 ∷ Downgrade 1 2 ∷ Downgrade 1 2 ∷ [])
     ((0 ∷ 1 ∷ [])
     ∷ (1 ∷ 1 ∷ 0 ∷ 0 ∷ 4 ∷ 1 ∷ 1 ∷ 0 ∷ eof ∷ [])
     ∷ (0 ∷ 2 ∷ [])
@@ -152,11 +153,11 @@ examples =
     ∷ [])
     -- P5
     ∷ sending
-    (Request 0 0 1 eof eof ∷ Request 0 0 1 0 (suc eof) ∷ Request 0 0 1 5 4 ∷ [])
+    (Request 0 0 1 eof eof false ∷ Request 0 0 1 0 (suc eof) false ∷ Request 0 0 1 5 4 false ∷ [])
     ((0 ∷ 1 ∷ []) ∷ (1 ∷ 1 ∷ 0 ∷ 0 ∷ 1 ∷ 1 ∷ 0 ∷ eof ∷ eof ∷ []) ∷ (6 ∷ 0 ∷ []) ∷ (6 ∷ 0 ∷ []) ∷ [])
     -- P6, P7
     ∷ sending
-    (Request 63 0 1 0 0 ∷ Request 64 0 1 0 0 ∷ Request 0 16 0 0 0 ∷ [])
+    (Request 63 0 1 0 0 false ∷ Request 64 0 1 0 0 false ∷ Request 0 16 0 0 0 false ∷ [])
     ((0 ∷ 1 ∷ []) ∷ (1 ∷ 1 ∷ 63 ∷ 0 ∷ 1 ∷ 1 ∷ 0 ∷ 0 ∷ eof ∷ []) ∷ (3 ∷ 0 ∷ []) ∷ (4 ∷ 0 ∷ []) ∷ [])
     -- P8
     ∷ inOrder A B C

@@ -10,7 +10,7 @@ use Rattle.common.specs.Ranges.{eof}
 use Rattle.common.specs.Tests.{any}
 use Rattle.modes.specs.Codes.{granted, asked, canceling}
 use Rattle.table.specs.declared.Lock.{Lock}
-use Rattle.table.specs.Table.{Table, nth, waits}
+use Rattle.table.specs.Table.{Table, nth, waits, marked}
 use Rattle.locks.specs.declared.Message.{Message}
 use Rattle.locks.specs.Conflicts.{against, obstacle, hurries}
 use Rattle.locks.specs.Settle.{Event, grantEvent, revocation, given, inState, nextNumber, turns, presses}
@@ -31,9 +31,12 @@ pub record Granted (t : Table) (w : Lock) (e : Event) : Type 0 where
   pub unhindered : T (not (any (obstacle w) (t .locks)))
   -- "if a waiting request with a larger handle conflicts with its asked range, it is granted canceling, with the asked range (early revocation)"
   pub early : T (any (hurries w) (t .locks)) → e ≡ grantEvent (given w canceling (nextNumber (t .lasts) w) (w .last))
-  -- "otherwise it is granted in state 1, first byte as asked, last byte the greatest one .."
+  -- "otherwise it is granted in state 1, first byte as asked, last byte the greatest one ..": "Widening in demand 2 now speaks of requests without this mark"
   pub widened :
-      T (not (any (hurries w) (t .locks))) → (l : ℕ) × (e ≡ grantEvent (given w granted (nextNumber (t .lasts) w) l)) × Widest w (t .locks) l
+      T (not (any (hurries w) (t .locks))) → T (not (marked w))
+      → (l : ℕ) × (e ≡ grantEvent (given w granted (nextNumber (t .lasts) w) l)) × Widest w (t .locks) l
+  -- "Such a request is marked: its grant ends where it asked"
+  pub exact : T (not (any (hurries w) (t .locks))) → T (marked w) → e ≡ grantEvent (given w granted (nextNumber (t .lasts) w) (w .last))
 
 -- The table X with the message's own change, when the first n places had their turn; the record at the place n, whose turn it is; that it is a request
 -- which waits
