@@ -2,6 +2,7 @@
 use Prim.Native.Nat.{ℕ, _≤_, _<_}
 use Prim.Native.Char.{code}
 use mathlib.Core.Path.{_≡_, refl}
+use mathlib.Core.Bool.{false}
 use mathlib.Core.List.{List, [], _∷_}
 use native.Mathlib.Omega.{arith}
 use lib.ListN.{length, getD, drop}
@@ -34,7 +35,7 @@ module _ (s : List ℕ) {a b : Reading} {r : Read} (ea : a ≡ readField s) (eb 
   named m e = rw (e, eb, ea)
 
   pub requested : {c d z : Reading} → c ≡ readField (b .rest) → d ≡ readField (c .rest) → z ≡ readField (d .rest)
-      → r ≡ ended z (Request (a .value) (b .value) (c .value) (d .value) (z .value)) → r ≡ readFields 5 requesting s
+      → r ≡ ended z (Request (a .value) (b .value) (c .value) (d .value) (z .value) false) → r ≡ readFields 5 requesting s
   unfolding readFields
   requested ec ed ez e = rw (e, ez, ed, ec, eb, ea)
 

@@ -5,10 +5,11 @@ use Prim.Native.String.{String, [] as nothing, _∷_ as _then_}
 use mathlib.Core.Bool.{Bool, true, false, cond, _&&_}
 use mathlib.Core.List.{List, [], _∷_}
 use lib.ListN.{length, getD}
-use lib.Dec.{ltb, leb, eqb}
+use lib.Dec.{T, ltb, leb, eqb}
 use Rattle.common.specs.Ranges.{within}
 use Rattle.locks.specs.declared.Message.{Message}
 use Rattle.locks.specs.declared.Message.the-variants.{Request, Acknowledge, Downgrade, Release}
+use Rattle.locks.specs.Session.{single}
 use Rattle.line.specs.declared.Read.{Read}
 use Rattle.line.specs.declared.Read.the-variants.{Bad, Good}
 
@@ -72,7 +73,7 @@ unfoldable pub readFields : ℕ → (List ℕ → Message) → List ℕ → Read
 readFields n m s = let p = right 0 s in ended (readOn n p) (m (numbers n p))
 
 abbrev pub requesting : List ℕ → Message
-requesting ns = Request (getD ns 0 0) (getD ns 1 0) (getD ns 2 0) (getD ns 3 0) (getD ns 4 0)
+requesting ns = Request (getD ns 0 0) (getD ns 1 0) (getD ns 2 0) (getD ns 3 0) (getD ns 4 0) false
 
 abbrev pub naming : (ℕ → ℕ → Message) → List ℕ → Message
 naming m ns = m (getD ns 0 0) (getD ns 1 0)
@@ -91,3 +92,8 @@ longest = 128
 unfoldable pub readLine : List ℕ → Read
 readLine [] = Bad
 readLine (l ∷ s) = cond (ltb longest (length (l ∷ s))) Bad (byLetter l s)
+
+-- What a line says comes by itself: its requests are unmarked
+abbrev pub Single : Read → Type 0
+Single Bad = Unit {0}
+Single (Good m) = T (single m)

@@ -152,6 +152,7 @@ pub fn read_line(s: &[u8]) -> Read
                     mode: c.value,
                     first: d.value,
                     last: e.value,
+                    marked: false,
                 },
             )
         }

@@ -1,6 +1,6 @@
 -- A session: messages served one after the other.
 use Prim.Native.Nat.{ℕ}
-use mathlib.Core.Bool.{Bool, true, false, _&&_, cond}
+use mathlib.Core.Bool.{Bool, true, false, not, _&&_, cond}
 use mathlib.Core.List.{List, [], _∷_, _++_, map}
 use lib.Dec.{eqb}
 use Rattle.common.specs.Tests.{keep}
@@ -9,6 +9,13 @@ use Rattle.locks.specs.declared.Message.{Message}
 use Rattle.locks.specs.declared.Message.the-variants.{Request, Acknowledge, Downgrade, Release}
 use Rattle.locks.specs.Settle.{Event}
 use Rattle.locks.specs.Serve.{serve}
+
+-- A message that comes by itself; a marked request is an item of a list
+abbrev pub single : Message → Bool
+single (Request c s m f l k) = not k
+single (Acknowledge c h) = true
+single (Downgrade c h) = true
+single (Release c h) = true
 
 -- The table after the messages, and their events in order
 abbrev pub tableAfter : Table → List Message → Table

@@ -2,11 +2,15 @@
 use line::Read;
 use locks::Message;
 use serve::Answer;
+ghost use lib.Dec.{T};
+ghost use Rattle.locks.specs.Session.{single};
+ghost use Rattle.line.specs.Format.{Single};
 ghost use Rattle.message.specs.Messages.{Serves};
 ghost use Rattle.session.specs.Buffers.{Lent, Ready, Answers, Feeds, Ends};
 
-// Serves a message through the entry that C gets.
+// Serves a message that comes by itself through the entry that C gets.
 fn call(table: &mut [u8], events: &mut [u8], m: Message) -> Answer
+    requires { ⌜ T (single m) ⌝ }
     ensures { λ r. ⌜ Serves m (now (table .entry)) (now (events .entry)) r (now (table .exit)) (now (events .exit)) ⌝ }
 {
     match m {
@@ -16,6 +20,7 @@ fn call(table: &mut [u8], events: &mut [u8], m: Message) -> Answer
             mode,
             first,
             last,
+            marked: _,
         } => gilboreth::messages::gil_request(table, events, client, stripe, mode, first, last),
         Message::Acknowledge { client, handle } => {
             gilboreth::messages::gil_acknowledge(table, events, client, handle)
@@ -31,7 +36,7 @@ fn call(table: &mut [u8], events: &mut [u8], m: Message) -> Answer
 
 // Puts the answer to what a line says, and answers how many bytes it has.
 fn answer(table: &mut [u8], events: &mut [u8], out: &mut [u8], r: Read) -> usize
-    requires { ⌜ Lent (now table) (now events) (now out) ⌝ }
+    requires { ⌜ Lent (now table) (now events) (now out) × Single r ⌝ }
     ensures { λ k. ⌜ Answers r (now (table .entry)) k (now (table .exit)) (now (events .exit)) (now (out .exit)) ⌝ }
 {
     match r {

@@ -5,11 +5,12 @@ use mathlib.Core.Path.{_≡_, refl, ap, _∙_}
 use mathlib.Core.Bool.{Bool, true, false}
 use mathlib.Core.List.{List, [], _∷_, _++_, append-assoc, append-nil}
 use native.Mathlib.Omega.{arith}
-use lib.Dec.{ltb}
+use lib.Dec.{T, ltb}
 use lib.ListN.{length, drop, length-append}
 use borrow.Author.Tests.{lt-ltb, le-ltb, le-leb, ltb-true, ltb-false, ne-eqb}
 use Rattle.locks.specs.declared.Message.{Message}
 use Rattle.locks.specs.declared.Message.the-variants.{Request, Acknowledge, Downgrade, Release}
+use Rattle.locks.specs.Session.{single}
 use Rattle.line.specs.declared.Read.the-variants.{Good}
 use Rattle.line.specs.Format.{Reading, right, largest, digitOf, readDigits, readNumber, readField}
 use Rattle.line.specs.Format.{readOn, numbers, readFields, requesting, naming, byLetter, readLine}
@@ -112,9 +113,10 @@ fields-say f ns h =
 text-short : (l : ℕ) (ns : List ℕ) → length ns ≤ 5 → readLine (l ∷ fieldsText ns) ≡ byLetter l (fieldsText ns)
 text-short l ns h = by-letter (l ∷ fieldsText ns) (omega (arith, fields-length ns)) (λ e. omega arith)
 
-pub read-text : (m : Message) → Fits (numbersOf m) → readLine (messageText m) ≡ Good m
+pub read-text : (m : Message) → T (single m) → Fits (numbersOf m) → readLine (messageText m) ≡ Good m
 unfolding byLetter
-read-text (Request c s m f l) h = text-short 82 (c ∷ s ∷ m ∷ f ∷ l ∷ []) (omega arith) ∙ fields-say requesting (c ∷ s ∷ m ∷ f ∷ l ∷ []) h
-read-text (Acknowledge c k) h = text-short 65 (c ∷ k ∷ []) (omega arith) ∙ fields-say (naming Acknowledge) (c ∷ k ∷ []) h
-read-text (Downgrade c k) h = text-short 68 (c ∷ k ∷ []) (omega arith) ∙ fields-say (naming Downgrade) (c ∷ k ∷ []) h
-read-text (Release c k) h = text-short 70 (c ∷ k ∷ []) (omega arith) ∙ fields-say (naming Release) (c ∷ k ∷ []) h
+read-text (Request c s m f l true) u h = absurd u
+read-text (Request c s m f l false) u h = text-short 82 (c ∷ s ∷ m ∷ f ∷ l ∷ []) (omega arith) ∙ fields-say requesting (c ∷ s ∷ m ∷ f ∷ l ∷ []) h
+read-text (Acknowledge c k) u h = text-short 65 (c ∷ k ∷ []) (omega arith) ∙ fields-say (naming Acknowledge) (c ∷ k ∷ []) h
+read-text (Downgrade c k) u h = text-short 68 (c ∷ k ∷ []) (omega arith) ∙ fields-say (naming Downgrade) (c ∷ k ∷ []) h
+read-text (Release c k) u h = text-short 70 (c ∷ k ∷ []) (omega arith) ∙ fields-say (naming Release) (c ∷ k ∷ []) h

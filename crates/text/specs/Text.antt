@@ -24,13 +24,13 @@ fieldsText (n ∷ ns) = code "," ∷ (decimal n ++ fieldsText ns)
 
 -- A message as a line
 abbrev pub letterOf : Message → ℕ
-letterOf (Request c s m f l) = code "R"
+letterOf (Request c s m f l k) = code "R"
 letterOf (Acknowledge c h) = code "A"
 letterOf (Downgrade c h) = code "D"
 letterOf (Release c h) = code "F"
 
 abbrev pub numbersOf : Message → List ℕ
-numbersOf (Request c s m f l) = c ∷ s ∷ m ∷ f ∷ l ∷ []
+numbersOf (Request c s m f l k) = c ∷ s ∷ m ∷ f ∷ l ∷ []
 numbersOf (Acknowledge c h) = c ∷ h ∷ []
 numbersOf (Downgrade c h) = c ∷ h ∷ []
 numbersOf (Release c h) = c ∷ h ∷ []

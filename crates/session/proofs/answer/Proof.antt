@@ -15,18 +15,18 @@ put-bad-requires c κs = search needs
 put-outcome-requires : tie.Need-put-outcome-requires
 put-outcome-requires c κs =
     let e = c .before .before .before .before .before .before in
-    let l = e .before .before .before .before .before .before .before .before .before .pre in
+    let l = e .before .before .before .before .before .before .before .before .before .pre .0 in
     let n = counted _ _ _ (l .sound) (l .event-room) (e .call .ensures) in
     let z = e .call .kept .1 .0 in
     (omega (arith, l .text-room), omega (arith, l .event-room))
 
 bad : tie.Need-returns
-bad c = rw (c .before .before .before .before .enum-told .given .1) (answered-bad (c .before .before .before .before .before .before .before .before .before .pre) (c .before .before .put-bad .ensures))
+bad c = rw (c .before .before .before .before .enum-told .given .1) (answered-bad (c .before .before .before .before .before .before .before .before .before .pre .0) (c .before .before .put-bad .ensures))
 
 good : tie.Need-returns-2
 good c =
     let e = called c in
-    let l = e .before .before .before .before .before .before .before .before .before .pre in
+    let l = e .before .before .before .before .before .before .before .before .before .pre .0 in
     rw (e .before .before .before .before .r .given .1)
     (answered-good _ _ _ (l .sound) (l .event-room) (e .call .ensures) l refl (e .call .kept .1 .0) (c .before .before .put-outcome .ensures))
 
