@@ -19,10 +19,13 @@ use Rattle.table.proofs.Records.{locks-length}
 use Rattle.locks.specs.declared.Message.{Message}
 use Rattle.locks.specs.declared.Message.the-variants.{Request}
 use Rattle.locks.specs.Refusals.{requestRules, rules}
-use Rattle.locks.specs.Serve.{asking, change, answered}
+use Rattle.locks.specs.Settle.{settle}
+use Rattle.locks.specs.Serve.{asking, change, answered, serve}
+use Rattle.locks.specs.Events.{Room}
 use Rattle.serve.specs.declared.Answer.{Answer}
-use Rattle.serve.specs.Posts.{OnSound, Ends}
-use Rattle.serve.proofs.Ending.{message-refused, message-good, message-served}
+use Rattle.serve.specs.Posts.{Behind, EndsBehind}
+use Rattle.serve.proofs.Ending.{message-good}
+use Rattle.serve.proofs.Behind.{behind-refused, behind-room, behind-served}
 
 -- k is what the rows answer
 module _ (n c s m f l k : ℕ) (t : List ℕ) (p : k ≡ firstHit (requestRules (tableOf width t) c s m f l)) where
@@ -36,8 +39,8 @@ module _ (n c s m f l k : ℕ) (t : List ℕ) (p : k ≡ firstHit (requestRules 
   unfolding rules
   rows = p
 
-  pub request-refused : (b : List ℕ) (r : Answer) → (k ≡ 0 → ⊥) → r ≡ record { refusal = k; handle = 0; events = 0 } → OnSound (Request c s m f l) t b r t b
-  request-refused b r z q = message-refused asks t b r k rows z q
+  pub request-refused : (j : ℕ) (b : List ℕ) (r : Answer) → (k ≡ 0 → ⊥) → r ≡ record { refusal = k; handle = 0; events = 0 } → Behind j (serve (tableOf width t) (Request c s m f l)) t b r t b
+  request-refused j b r z q = behind-refused asks t j b r k rows z q
 
   -- it answers 0, and e handles are issued
   module _ (G : Good n t) (z : k ≡ 0) (e : ℕ) (q : e ≡ tableOf width t .issued) where
@@ -83,6 +86,9 @@ module _ (n c s m f l k : ℕ) (t : List ℕ) (p : k ≡ firstHit (requestRules 
       pub request-good : Good (n + 1) v
       request-good = message-good asks t (sym rows ∙ z) (n + 1) v (K .shape) changed (G .sounds)
 
-      pub request-served : (r : Answer) (b w d : List ℕ) → Ends (e + 1) (tableOf width v) b r w d → OnSound (Request c s m f l) t b r w d
+      pub request-room : (j : ℕ) (b : List ℕ) → Room (j + length (serve (tableOf width t) (Request c s m f l) .events)) b → Room (j + length (settle (tableOf width v) .events)) b
+      request-room j b h = behind-room asks t (sym rows ∙ z) v changed j b h
+
+      pub request-served : (j : ℕ) (r : Answer) (b w d : List ℕ) → EndsBehind j (e + 1) (tableOf width v) b r w d → Behind j (serve (tableOf width t) (Request c s m f l)) t b r w d
       unfolding answered
-      request-served r b w d E = message-served asks t (sym rows ∙ z) (n + 1) v (K .shape) changed (e + 1) b r w d (ap (λ (j : ℕ). j + 1) q) E
+      request-served j r b w d E = behind-served asks t (sym rows ∙ z) v changed j (e + 1) b r w d (ap (λ (i : ℕ). i + 1) q) E

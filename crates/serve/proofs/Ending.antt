@@ -1,53 +1,28 @@
 -- How a call ends, whatever it asks: with a refusal, which leaves all bytes, or with the changed table settled.
-use Prim.Native.Nat.{ℕ, _+_}
-use native.Mathlib.Omega.{arith}
+use Prim.Native.Nat.{ℕ}
 use mathlib.Core.Bool.{Bool, cond}
 use mathlib.Core.List.{List, []}
-use mathlib.Core.Path.{_≡_, refl, sym, ap, ap₂, subst, _∙_}
+use mathlib.Core.Path.{_≡_, refl, sym, ap, subst}
 use lib.Dec.{T, eqb→eq}
-use lib.ListN.{length, length-map}
 use borrow.Author.Tests.{ne-eqb}
 use Rattle.common.specs.Counters.{width}
 use Rattle.common.specs.Refusals.{Rule, firstHit}
 use Rattle.common.proofs.Order.{eq→eqb}
-use Rattle.xdr.specs.Be.{putBe}
-use Rattle.xdr.specs.Array.{putArray}
-use Rattle.table.specs.Table.{Table, maxRecords}
+use Rattle.table.specs.Table.{Table}
 use Rattle.table.specs.Sound.{sound}
 use Rattle.table.specs.Bytes.{tableOf}
-use Rattle.table.specs.Places.{countOf, Shape, Holds, Good}
-use Rattle.table.proofs.Records.{locks-length}
+use Rattle.table.specs.Places.{countOf, Shape, Good}
 use Rattle.locks.specs.declared.Message.{Message}
-use Rattle.locks.specs.Settle.{settle}
 use Rattle.locks.specs.Refusals.{rules}
 use Rattle.locks.specs.Serve.{change, answered, refused, served, serve}
-use Rattle.locks.specs.Events.{eventFields, Room, eventsOver}
-use Rattle.locks.proofs.Events.{settle-once}
+use Rattle.locks.specs.Events.{eventsOver}
 use Rattle.locks.proofs.Served.{change-keeps}
-use Rattle.settle.specs.Posts.{Did}
 use Rattle.serve.specs.declared.Answer.{Answer}
 use Rattle.serve.specs.Leaves.{Leaves}
 use Rattle.serve.specs.Posts.{OnSound, Ends}
 
 pub counted : (n : ℕ) (t : List ℕ) → n ≡ countOf t → Good (countOf t) t → Good n t
 counted n t e G = subst (λ (m : ℕ). Good m t) (sym e) G
-
--- room for the events of any call is room for those of this one
-pub events-fit : (n : ℕ) (t b : List ℕ) → Good n t → Room maxRecords b → Room (0 + length (settle (tableOf width t) .events)) b
-events-fit n t b G z = let h = settle-once (tableOf width t) (G .sounds) .at-most in omega arith
-
--- the events stand there, and then their count
-pub ends : (n h k : ℕ) (X : Table) (b u d c : List ℕ) → Did n 0 (settle X) b k u d → c ≡ putBe 4 d 0 k → Ends h X b (record { refusal = 0; handle = h; events = k }) u c
-unfolding eventsOver putArray
-ends n h k X b u d c D p = record {
-  answer = ap {B = Answer} (λ (m : ℕ). record { refusal = 0; handle = h; events = m }) many;
-  same = λ a. refl;
-  table = λ a. subst (λ (m : ℕ). Holds m (settle X .table) u) (sym (D .table .shape .count) ∙ sym (locks-length u) ∙ ap (λ (Y : Table). length (Y .locks)) (D .table .says)) (D .table);
-  events = p ∙ ap₂ (λ (x : List ℕ) (m : ℕ). putBe 4 x 0 m) (D .bytes) (many ∙ sym (length-map (settle X .events) eventFields));
-}
-  where
-    many : k ≡ length (settle X .events)
-    many = let q = D .count in omega arith
 
 -- a refusal
 pub leaves-refused : (X : Table) (t b : List ℕ) (r : Answer) (k : ℕ) → (k ≡ 0 → ⊥) → r ≡ record { refusal = k; handle = 0; events = 0 } → Leaves (refused X k) t b r t b

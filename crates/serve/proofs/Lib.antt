@@ -1,3 +1,4 @@
 pub mod Ending
+pub mod Behind
 pub mod Asking
 pub mod Naming

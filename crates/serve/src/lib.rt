@@ -5,14 +5,18 @@ use judge::Becomes;
 use modes::WAITING;
 use table::Lock;
 ghost use mathlib.Core.Path.{_≡_};
+ghost use Prim.Native.Nat.{_+_};
+ghost use lib.ListN.{length};
 ghost use Rattle.common.specs.Counters.{width};
 ghost use Rattle.table.specs.Table.{maxRecords};
 ghost use Rattle.table.specs.Bytes.{tableOf};
 ghost use Rattle.table.specs.Places.{Good};
 ghost use Rattle.locks.specs.declared.Message.the-variants.{Request, Release};
+ghost use Rattle.locks.specs.Settle.{settle};
+ghost use Rattle.locks.specs.Serve.{serve};
 ghost use Rattle.locks.specs.Events.{Room};
 ghost use Rattle.judge.specs.Posts.{asks};
-ghost use Rattle.serve.specs.Posts.{OnSound, Ends};
+ghost use Rattle.serve.specs.Posts.{OnSound, Behind, Ends, EndsBehind, withCount};
 
 // What a call answers: its refusal or 0, the handle that it made or named, and how many events it wrote.
 #[repr(C)]
@@ -33,33 +37,54 @@ pub fn refused(k: u64) -> Answer
     }
 }
 
+// Settles the changed table, writes the events behind j others, and answers the handle h. The count of the events is the caller's to store.
+fn settled(t: &mut [u8], b: &mut [u8], n: usize, j: usize, h: Handle) -> Answer
+    requires { ⌜ Good n (now t) × Room (j + length (settle (tableOf width (now t)) .events)) (now b) ⌝ }
+    ensures { λ r. ⌜ EndsBehind j (h .0) (tableOf width (now (t .entry))) (now (b .entry)) r (now (t .exit)) (now (b .exit)) ⌝ }
+{
+    let k = settle::settle(t, b, n, j);
+    Answer {
+        refusal: 0,
+        handle: h.0,
+        events: (k - j) as u64,
+    }
+}
+
+// Stores how many events an accepted call gave.
+fn put_count(b: &mut [u8], a: Answer)
+    requires { ⌜ Room 0 (now b) ⌝ }
+    ensures { λ _. ⌜ now (b .exit) ≡ withCount a (now (b .entry)) ⌝ }
+{
+    if a.refusal != 0 {
+        return;
+    }
+    xdr::put_u32(b, 0, a.events);
+}
+
 // Settles the changed table, stores how many events there are, and answers the handle h.
 fn finish(t: &mut [u8], b: &mut [u8], n: usize, h: Handle) -> Answer
     requires { ⌜ Good n (now t) × Room maxRecords (now b) ⌝ }
     ensures { λ r. ⌜ Ends (h .0) (tableOf width (now (t .entry))) (now (b .entry)) r (now (t .exit)) (now (b .exit)) ⌝ }
 {
-    let k = settle::settle(t, b, n, 0);
-    xdr::put_u32(b, 0, k as u64);
-    Answer {
-        refusal: 0,
-        handle: h.0,
-        events: k as u64,
-    }
+    let a = settled(t, b, n, 0, h);
+    put_count(b, a);
+    a
 }
 
-// Adds a waiting record for a request, and settles.
-pub fn request(
+// Adds a waiting record for a request, and settles, behind j events. The count of the events is the caller's to store.
+pub fn ask(
     t: &mut [u8],
     b: &mut [u8],
     n: usize,
+    j: usize,
     client: u64,
     stripe: u64,
     mode: u64,
     first: u64,
     last: u64,
 ) -> Answer
-    requires { ⌜ Good n (now t) × Room maxRecords (now b) ⌝ }
-    ensures { λ r. ⌜ OnSound (Request client stripe mode first last) (now (t .entry)) (now (b .entry)) r (now (t .exit)) (now (b .exit)) ⌝ }
+    requires { ⌜ Good n (now t) × Room (j + length (serve (tableOf width (now t)) (Request client stripe mode first last) .events)) (now b) ⌝ }
+    ensures { λ r. ⌜ Behind j (serve (tableOf width (now (t .entry))) (Request client stripe mode first last)) (now (t .entry)) (now (b .entry)) r (now (t .exit)) (now (b .exit)) ⌝ }
 {
     let k = judge::request_refusal(t, n, client, stripe, mode, first, last);
     if k != 0 {
@@ -78,7 +103,26 @@ pub fn request(
     };
     table::put_issued(t, n, h.0);
     table::add(t, n, l);
-    finish(t, b, n + 1, h)
+    settled(t, b, n + 1, j, h)
+}
+
+// Serves a request.
+fn request(
+    t: &mut [u8],
+    b: &mut [u8],
+    n: usize,
+    client: u64,
+    stripe: u64,
+    mode: u64,
+    first: u64,
+    last: u64,
+) -> Answer
+    requires { ⌜ Good n (now t) × Room maxRecords (now b) ⌝ }
+    ensures { λ r. ⌜ OnSound (Request client stripe mode first last) (now (t .entry)) (now (b .entry)) r (now (t .exit)) (now (b .exit)) ⌝ }
+{
+    let a = ask(t, b, n, 0, client, stripe, mode, first, last);
+    put_count(b, a);
+    a
 }
 
 // Remakes the client's record with the handle, and settles.
