@@ -1,6 +1,7 @@
 // The four messages: request, acknowledge, downgrade, release.
 use locks::Message;
 use serve::Answer;
+ghost use mathlib.Core.Bool.{false};
 ghost use Rattle.locks.specs.declared.Message.the-variants.{Request, Acknowledge, Downgrade, Release};
 ghost use Rattle.message.specs.Messages.{Serves};
 
@@ -15,7 +16,7 @@ pub extern "C" fn gil_request(
     first: u64,
     last: u64,
 ) -> Answer
-    ensures { λ r. ⌜ Serves (Request client stripe mode first last) (now (table .entry)) (now (events .entry)) r (now (table .exit)) (now (events .exit)) ⌝ }
+    ensures { λ r. ⌜ Serves (Request client stripe mode first last false) (now (table .entry)) (now (events .entry)) r (now (table .exit)) (now (events .exit)) ⌝ }
 {
     let m = Message::Request {
         client: client,
@@ -23,6 +24,7 @@ pub extern "C" fn gil_request(
         mode: mode,
         first: first,
         last: last,
+        marked: false,
     };
     message::call(table, events, m)
 }

@@ -25,7 +25,8 @@ fn serve(t: &mut [u8], b: &mut [u8], m: Message) -> Answer
             mode,
             first,
             last,
-        } => serve::request(t, b, n, client, stripe, mode, first, last),
+            marked,
+        } => serve::request(t, b, n, client, stripe, mode, first, last, marked),
         Message::Acknowledge { client, handle } => {
             serve::remake(t, b, n, client, Handle(handle), Becomes::Canceling)
         }

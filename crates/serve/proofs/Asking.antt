@@ -1,6 +1,7 @@
 -- A request that is not refused: what its rows allow says that the new record fits, and the stores make the change of the rules.
 use Prim.Native.Nat.{ℕ, _+_, _^_, _≤_, _<_}
 use native.Mathlib.Omega.{arith}
+use mathlib.Core.Bool.{Bool, true, false, cond}
 use mathlib.Core.List.{List, [], _∷_, _++_}
 use mathlib.Core.Path.{_≡_, sym, ap, _∙_}
 use lib.Dec.{T, leb, leb→le, nleb→lt, nltb→le}
@@ -12,9 +13,10 @@ use Rattle.common.proofs.Bools.{and-l, and-r, undo}
 use Rattle.common.proofs.Order.{eq→eqb}
 use Rattle.common.proofs.Refusals.{unbroken}
 use Rattle.modes.specs.Codes.{knownMode}
+use Rattle.table.specs.declared.Lock.{Lock}
 use Rattle.table.specs.Table.{Table, maxClient, maxStripe, maxRecords}
 use Rattle.table.specs.Bytes.{locksOf, tableOf}
-use Rattle.table.specs.Places.{ShownFits, Holds, Good, withIssued, withLocks}
+use Rattle.table.specs.Places.{LockFits, Holds, Good, withIssued, withLocks}
 use Rattle.table.proofs.Records.{locks-length}
 use Rattle.locks.specs.declared.Message.{Message}
 use Rattle.locks.specs.declared.Message.the-variants.{Request}
@@ -28,18 +30,18 @@ use Rattle.serve.proofs.Ending.{message-good}
 use Rattle.serve.proofs.Behind.{behind-refused, behind-room, behind-served}
 
 -- k is what the rows answer
-module _ (n c s m f l k : ℕ) (t : List ℕ) (p : k ≡ firstHit (requestRules (tableOf width t) c s m f l)) where
+module _ (n c s m f l : ℕ) (d : Bool) (k : ℕ) (t : List ℕ) (p : k ≡ firstHit (requestRules (tableOf width t) c s m f l)) where
   abbrev X : Table
   X = tableOf width t
 
   abbrev asks : Message
-  asks = Request c s m f l
+  asks = Request c s m f l d
 
   rows : k ≡ firstHit (rules X asks)
   unfolding rules
   rows = p
 
-  pub request-refused : (j : ℕ) (b : List ℕ) (r : Answer) → (k ≡ 0 → ⊥) → r ≡ record { refusal = k; handle = 0; events = 0 } → Behind j (serve (tableOf width t) (Request c s m f l)) t b r t b
+  pub request-refused : (j : ℕ) (b : List ℕ) (r : Answer) → (k ≡ 0 → ⊥) → r ≡ record { refusal = k; handle = 0; events = 0 } → Behind j (serve (tableOf width t) (Request c s m f l d)) t b r t b
   request-refused j b r z q = behind-refused asks t j b r k rows z q
 
   -- it answers 0, and e handles are issued
@@ -60,7 +62,7 @@ module _ (n c s m f l k : ℕ) (t : List ℕ) (p : k ≡ firstHit (requestRules 
         let g : T (range f l) = undo (range f l) (search (and-l, and-r) depth 8) in
         let i = nleb→lt (highest width) (tableOf width t .issued) (search (and-l, and-r) depth 8) in
         let r = nleb→lt maxRecords (length (locksOf width t)) (search (and-l, and-r) depth 8) in
-        let d = G .shape .count in
+        let i′ = G .shape .count in
         record {
           client = nltb→le maxClient c (search (and-l));
           stripe = nltb→le maxStripe s (search (and-l, and-r));
@@ -71,24 +73,29 @@ module _ (n c s m f l k : ℕ) (t : List ℕ) (p : k ≡ firstHit (requestRules 
           room = omega (arith, locks-length t);
         }
 
-    pub request-fits : ShownFits (asking (e + 1) c s m f l)
-    request-fits = let g = allowed in (omega arith, (omega arith, (omega arith, (omega arith, (omega arith, (omega arith, (omega arith, (omega arith, tt))))))))
+    mark-small : (b : Bool) → cond {A = ℕ} b 1 0 ≤ 1
+    mark-small true = omega arith
+    mark-small false = omega arith
 
-    -- the handle is issued, which leaves u; the record is added, which leaves v
-    module _ (u v : List ℕ) (H : Holds n (withIssued (tableOf width t) (e + 1)) u) (K : Holds (n + 1) (withLocks (tableOf width u) (locksOf width u ++ (asking (e + 1) c s m f l ∷ []))) v) where
+    pub request-fits : (w : Lock) → w ≡ asking (e + 1) c s m f l d → LockFits w
+    request-fits w q = rw q (let g = allowed in let h = mark-small d in (omega arith, (omega arith, (omega arith, (omega arith, (omega arith, (omega arith, (omega arith, (omega arith, (omega arith, tt))))))))))
+
+    -- the handle is issued, which leaves u; the record w is added, which leaves v
+    module _ (w : Lock) (a : w ≡ asking (e + 1) c s m f l d) (u v : List ℕ) (H : Holds n (withIssued (tableOf width t) (e + 1)) u) (K : Holds (n + 1) (withLocks (tableOf width u) (locksOf width u ++ (w ∷ []))) v) where
       changed : tableOf width v ≡ change X asks
       unfolding change
       changed =
           K .says
-          ∙ ap (λ (Y : Table). withLocks Y (Y .locks ++ (asking (e + 1) c s m f l ∷ []))) (H .says)
-          ∙ ap (λ (j : ℕ). withLocks (withIssued X (j + 1)) (locksOf width t ++ (asking (j + 1) c s m f l ∷ []))) q
+          ∙ ap (λ (Y : Table). withLocks Y (Y .locks ++ (w ∷ []))) (H .says)
+          ∙ ap (λ (x : Lock). withLocks (withIssued X (e + 1)) (locksOf width t ++ (x ∷ []))) a
+          ∙ ap (λ (j : ℕ). withLocks (withIssued X (j + 1)) (locksOf width t ++ (asking (j + 1) c s m f l d ∷ []))) q
 
       pub request-good : Good (n + 1) v
       request-good = message-good asks t (sym rows ∙ z) (n + 1) v (K .shape) changed (G .sounds)
 
-      pub request-room : (j : ℕ) (b : List ℕ) → Room (j + length (serve (tableOf width t) (Request c s m f l) .events)) b → Room (j + length (settle (tableOf width v) .events)) b
+      pub request-room : (j : ℕ) (b : List ℕ) → Room (j + length (serve (tableOf width t) (Request c s m f l d) .events)) b → Room (j + length (settle (tableOf width v) .events)) b
       request-room j b h = behind-room asks t (sym rows ∙ z) v changed j b h
 
-      pub request-served : (j : ℕ) (r : Answer) (b w d : List ℕ) → EndsBehind j (e + 1) (tableOf width v) b r w d → Behind j (serve (tableOf width t) (Request c s m f l)) t b r w d
+      pub request-served : (j : ℕ) (r : Answer) (b x y : List ℕ) → EndsBehind j (e + 1) (tableOf width v) b r x y → Behind j (serve (tableOf width t) (Request c s m f l d)) t b r x y
       unfolding answered
-      request-served j r b w d E = behind-served asks t (sym rows ∙ z) v changed j (e + 1) b r w d (ap (λ (i : ℕ). i + 1) q) E
+      request-served j r b x y E = behind-served asks t (sym rows ∙ z) v changed j (e + 1) b r x y (ap (λ (i : ℕ). i + 1) q) E

@@ -13,7 +13,7 @@ use Rattle.common.proofs.Bools.{and-l, and-both, and-false, true-is}
 use Rattle.table.specs.declared.Lock.{Lock}
 use Rattle.table.specs.Table.{Table, nth}
 use Rattle.table.specs.Bytes.{locksOf, tableOf}
-use Rattle.table.specs.Places.{lockAt, ShownFits, Shape, Holds, Good, withLock, withLocks, without}
+use Rattle.table.specs.Places.{lockAt, LockFits, Shape, Holds, Good, withLock, withLocks, without}
 use Rattle.table.proofs.Records.{locks-length, inside, nth-is}
 use Rattle.table.proofs.Fitting.{remade-fits}
 use Rattle.modes.specs.Codes.{nbw, canceling}
@@ -135,6 +135,6 @@ module _ (n c h : ℕ) (t : List ℕ) (G : Good n t) (f : Found) (F : Finds n (t
       pub gone-served : (b : List ℕ) (r : Answer) (v w : List ℕ) → Ends h (tableOf width u) b r v w → OnSound (Release c h) t b r v w
       gone-served b r v w E = becomes-served (Release c h) (named c h) (releases c h) its (n - 1) u (H .shape) gone b r v w E
 
-pub becoming-fits : (to : Becomes) (l q : Lock) → q ≡ becoming to l → ShownFits l → ShownFits q
+pub becoming-fits : (to : Becomes) (l q : Lock) → q ≡ becoming to l → LockFits l → LockFits q
 becoming-fits Canceling l q e f = remade-fits (l .mode) canceling l q (f .1 .1 .1 .0) (omega arith) e f
 becoming-fits Nbw l q e f = remade-fits nbw (l .state) l q (omega arith) (f .1 .1 .1 .1 .0) e f

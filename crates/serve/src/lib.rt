@@ -5,6 +5,7 @@ use judge::Becomes;
 use modes::WAITING;
 use table::Lock;
 ghost use mathlib.Core.Path.{_≡_};
+ghost use mathlib.Core.Bool.{cond};
 ghost use Prim.Native.Nat.{_+_};
 ghost use lib.ListN.{length};
 ghost use Rattle.common.specs.Counters.{width};
@@ -13,7 +14,7 @@ ghost use Rattle.table.specs.Bytes.{tableOf};
 ghost use Rattle.table.specs.Places.{Good};
 ghost use Rattle.locks.specs.declared.Message.the-variants.{Request, Release};
 ghost use Rattle.locks.specs.Settle.{settle};
-ghost use Rattle.locks.specs.Serve.{serve};
+ghost use Rattle.locks.specs.Serve.{asking, serve};
 ghost use Rattle.locks.specs.Events.{Room};
 ghost use Rattle.judge.specs.Posts.{asks};
 ghost use Rattle.serve.specs.Posts.{OnSound, Behind, Ends, EndsBehind, withCount};
@@ -71,6 +72,38 @@ fn finish(t: &mut [u8], b: &mut [u8], n: usize, h: Handle) -> Answer
     a
 }
 
+// The mark of a waiting request.
+fn mark_of(marked: bool) -> u64
+    ensures { λ r. ⌜ r ≡ cond marked 1 0 ⌝ }
+{
+    if marked { 1 } else { 0 }
+}
+
+// Makes the record of a request, which waits.
+fn waiting(
+    h: Handle,
+    client: u64,
+    stripe: u64,
+    mode: u64,
+    first: u64,
+    last: u64,
+    marked: bool,
+) -> Lock
+    ensures { λ r. ⌜ r ≡ asking (h .0) client stripe mode first last marked ⌝ }
+{
+    Lock {
+        handle: h,
+        client: client,
+        stripe: stripe,
+        mode: mode,
+        state: WAITING,
+        number: Number(0),
+        first: first,
+        last: last,
+        mark: mark_of(marked),
+    }
+}
+
 // Adds a waiting record for a request, and settles, behind j events. The count of the events is the caller's to store.
 pub fn ask(
     t: &mut [u8],
@@ -82,32 +115,24 @@ pub fn ask(
     mode: u64,
     first: u64,
     last: u64,
+    marked: bool,
 ) -> Answer
-    requires { ⌜ Good n (now t) × Room (j + length (serve (tableOf width (now t)) (Request client stripe mode first last) .events)) (now b) ⌝ }
-    ensures { λ r. ⌜ Behind j (serve (tableOf width (now (t .entry))) (Request client stripe mode first last)) (now (t .entry)) (now (b .entry)) r (now (t .exit)) (now (b .exit)) ⌝ }
+    requires { ⌜ Good n (now t) × Room (j + length (serve (tableOf width (now t)) (Request client stripe mode first last marked) .events)) (now b) ⌝ }
+    ensures { λ r. ⌜ Behind j (serve (tableOf width (now (t .entry))) (Request client stripe mode first last marked)) (now (t .entry)) (now (b .entry)) r (now (t .exit)) (now (b .exit)) ⌝ }
 {
     let k = judge::request_refusal(t, n, client, stripe, mode, first, last);
     if k != 0 {
         return refused(k);
     }
     let h = Handle(table::issued(t) + 1);
-    let l = Lock {
-        handle: h,
-        client: client,
-        stripe: stripe,
-        mode: mode,
-        state: WAITING,
-        number: Number(0),
-        first: first,
-        last: last,
-    };
+    let l = waiting(h, client, stripe, mode, first, last, marked);
     table::put_issued(t, n, h.0);
     table::add(t, n, l);
     settled(t, b, n + 1, j, h)
 }
 
 // Serves a request.
-fn request(
+pub fn request(
     t: &mut [u8],
     b: &mut [u8],
     n: usize,
@@ -116,11 +141,12 @@ fn request(
     mode: u64,
     first: u64,
     last: u64,
+    marked: bool,
 ) -> Answer
     requires { ⌜ Good n (now t) × Room maxRecords (now b) ⌝ }
-    ensures { λ r. ⌜ OnSound (Request client stripe mode first last) (now (t .entry)) (now (b .entry)) r (now (t .exit)) (now (b .exit)) ⌝ }
+    ensures { λ r. ⌜ OnSound (Request client stripe mode first last marked) (now (t .entry)) (now (b .entry)) r (now (t .exit)) (now (b .exit)) ⌝ }
 {
-    let a = ask(t, b, n, 0, client, stripe, mode, first, last);
+    let a = ask(t, b, n, 0, client, stripe, mode, first, last, marked);
     put_count(b, a);
     a
 }
