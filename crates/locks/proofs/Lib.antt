@@ -16,3 +16,4 @@ pub mod Sessions
 pub mod Handles
 pub mod Fitting
 pub mod Weight
+pub mod Lists

@@ -4,3 +4,4 @@ pub mod Refusals
 pub mod Serve
 pub mod Events
 pub mod Session
+pub mod List

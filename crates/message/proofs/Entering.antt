@@ -1,21 +1,13 @@
--- What stands before a message is served: 1 and 2, and that a table whose bytes are sound is good.
-use Prim.Native.Nat.{ℕ, zero, suc, _+_, _-_, _≤_, _<_}
+-- What stands before a message is served: 1 and 2.
+use Prim.Native.Nat.{ℕ, _≤_, _<_}
 use native.Mathlib.Omega.{arith}
-use mathlib.Core.Bool.{Bool, true, false, not, _&&_}
-use mathlib.Core.List.{List, [], _∷_}
-use mathlib.Core.Path.{_≡_, refl, sym, subst, _∙_}
-use lib.Dec.{T, eqb, eqb→eq}
-use lib.ListN.{length, getD, drop}
-use lib.Seq.{getD-drop}
-use borrow.Author.Tests.{lt-ltb, le-ltb, not-true, not-false}
+use mathlib.Core.Bool.{Bool, true, false, not}
+use mathlib.Core.List.{List}
+use mathlib.Core.Path.{_≡_}
+use lib.ListN.{length}
+use borrow.Author.Tests.{lt-ltb, le-ltb}
 use Rattle.common.specs.Counters.{width}
-use Rattle.common.specs.Tests.{all, zeros}
-use Rattle.common.proofs.Bools.{and-l, and-r}
-use Rattle.table.specs.Sound.{sound}
-use Rattle.table.specs.Bytes.{tableSize, tableOf, recordsEnd, soundTableBytes}
-use Rattle.table.specs.Places.{countOf, Good}
-use Rattle.table.proofs.Facts.{sound→}
-use Rattle.table.proofs.Records.{locks-length}
+use Rattle.table.specs.Bytes.{tableOf, soundTableBytes}
 use Rattle.locks.specs.declared.Message.{Message}
 use Rattle.locks.specs.Serve.{serve}
 use Rattle.locks.specs.Events.{eventsSize}
@@ -37,28 +29,3 @@ module _ (m : Message) (t b : List ℕ) (r : Answer) where
     pub let-through : (u c : List ℕ) → not x ≡ false → Leaves (serve (tableOf width t) m) t b r u c → Serves m t b r u c
     unfolding outcome
     let-through u c f L = rw (le-ltb (length b) (eventsSize width) h, ← e, f) L
-
-all-zero : (xs : List ℕ) → T (zeros xs) → (k : ℕ) → getD xs k 0 ≡ 0
-all-zero [] t k = refl
-all-zero (x ∷ xs) t zero = eqb→eq x 0 (and-l (eqb x 0) (zeros xs) t)
-all-zero (x ∷ xs) t (suc k) = all-zero xs (and-r (eqb x 0) (zeros xs) t) k
-
-pub sound-good : (t : List ℕ) (x : Bool) → x ≡ soundTableBytes t → not x ≡ false → Good (countOf t) t
-unfolding soundTableBytes
-sound-good t x e f =
-    let from : ℕ = recordsEnd width t in
-    let s : T (eqb (length t) (tableSize width) && (sound (tableOf width t) && zeros (drop from t))) = subst T (sym (sym e ∙ not-false x f)) tt in
-    let d : T (sound (tableOf width t)) = search (and-l, and-r) in
-    let z : T (zeros (drop from t)) = search (and-l, and-r) in
-    let m = sound→ (tableOf width t) d .fits in
-    record {
-      shape = record {
-        size = eqb→eq (length t) (tableSize width) (search (and-l));
-        count = refl;
-        most = omega (arith, locks-length t);
-        zeros = λ k h.
-            let q : from + (k - from) ≡ k = omega arith in
-            subst (λ (j : ℕ). getD t j 0 ≡ 0) q (sym (getD-drop from t (k - from) 0) ∙ all-zero (drop from t) z (k - from));
-      };
-      sounds = d;
-    }

@@ -21,7 +21,7 @@ use Rattle.locks.proofs.Fitting.{serve-fit}
 use Rattle.serve.specs.declared.Answer.{Answer}
 use Rattle.serve.specs.Leaves.{Leaves}
 use Rattle.message.specs.Messages.{Serves}
-use Rattle.message.proofs.Entering.{sound-good}
+use Rattle.sound.proofs.Passed.{sound-good}
 use Rattle.promises.specs.Session.{done, call}
 use Rattle.promises.proofs.Sessions.{outcome-is, Follows, session-follows}
 use Rattle.line.specs.declared.Read.the-variants.{Bad, Good}

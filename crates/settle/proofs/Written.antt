@@ -24,7 +24,7 @@ pub event-put : (b c d : List ℕ) (k kind : ℕ) (l : Lock) → c ≡ putBe 4 b
 unfolding putElements putFields
 event-put b c d k kind l e f = f ∙ put-fields-from (shownLayout width) c (eventPlace k) 4 0 (shownFields l) ∙ rw (add-zero (eventPlace k), e) refl
 
-events-then : (b : List ℕ) (k : ℕ) (es fs : List Event) → putEvents b k (es ++ fs) ≡ putEvents (putEvents b k es) (k + length es) fs
+pub events-then : (b : List ℕ) (k : ℕ) (es fs : List Event) → putEvents b k (es ++ fs) ≡ putEvents (putEvents b k es) (k + length es) fs
 unfolding putElements
 events-then b k [] fs = rw add-zero
 events-then b k (e ∷ es) fs =

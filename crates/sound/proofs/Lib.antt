@@ -6,3 +6,4 @@ pub mod Rows
 pub mod Whole
 pub mod Numbers
 pub mod Fields
+pub mod Passed
