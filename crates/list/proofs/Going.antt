@@ -12,7 +12,7 @@ use lib.ListN.{length, set, take, drop, length-map, length-append, drop-of-lengt
 use lib.Seq.{take-suc-set, drop-set-lt, drop-cons, append-snoc, take-all}
 use Rattle.common.specs.Counters.{width}
 use Rattle.xdr.specs.Be.{putBe}
-use Rattle.xdr.specs.Array.{putArray}
+use Rattle.xdr.specs.Array.{putElements, putArray}
 use Rattle.table.specs.Table.{Table}
 use Rattle.table.specs.Sound.{sound}
 use Rattle.table.specs.Bytes.{tableOf}
@@ -24,6 +24,7 @@ use Rattle.locks.specs.Serve.{Outcome}
 use Rattle.locks.specs.Events.{eventFields, eventsOver, Room}
 use Rattle.locks.specs.List.{asked, answeredItem, Listed, before, serveList, maxItems, maxListEvents}
 use Rattle.locks.proofs.Served.{serve-sound}
+use Rattle.locks.proofs.Lists.{list-few}
 use Rattle.settle.specs.Posts.{putEvents}
 use Rattle.settle.proofs.Written.{events-then}
 use Rattle.serve.specs.declared.Answer.{Answer}
@@ -93,8 +94,12 @@ module _ (xs₀ : List Item) (t₀ b₀ : List ℕ) where
     pub bytes : bs ≡ putEvents b₀ 0 sent
     pub rest : front (take i xs) sent (left ts xs i) ≡ serveList (tableOf width t₀) xs₀
 
-  abbrev pub begun : Passed xs₀ t₀ b₀ → length (serveList (tableOf width t₀) xs₀ .events) ≤ maxListEvents → b₀ ≡ putEvents b₀ 0 [] → State
-  begun P m n = record {
+  pub none-yet : b₀ ≡ putEvents b₀ 0 []
+  unfolding putElements
+  none-yet = refl
+
+  abbrev pub begun : Passed xs₀ t₀ b₀ → State
+  begun P = record {
     i = 0;
     k = 0;
     xs = xs₀;
@@ -102,14 +107,14 @@ module _ (xs₀ : List Item) (t₀ b₀ : List ℕ) where
     bs = b₀;
     sent = [];
     start = P;
-    most = m;
+    most = list-few (tableOf width t₀) xs₀ (P .good .sounds);
     upto = omega arith;
     same-xs = refl;
     same-ts = refl;
     same-bs = refl;
     good = P .good;
     count = refl;
-    bytes = n;
+    bytes = none-yet;
     rest = refl;
   }
 
@@ -174,7 +179,7 @@ module _ (xs₀ : List Item) (t₀ b₀ : List ℕ) where
     unfolding listOutcome listItems eventsOver putArray
     ended over r c F =
         let all : record { items = s .xs; table = tableOf width (s .ts); events = s .sent } ≡ serveList (tableOf width t₀) xs₀
-              = sym (all-done (s .i) (s .xs) (s .ts) (s .sent) (subst (λ (m : ℕ). m ≤ s .i) (sym (s .same-xs)) over)) ∙ s .rest in
+        = sym (all-done (s .i) (s .xs) (s .ts) (s .sent) (subst (λ (m : ℕ). m ≤ s .i) (sym (s .same-xs)) over)) ∙ s .rest in
         record {
           call = rw (s .start .none) (record {
             answer = F .0 ∙ (λ j. record { refusal = 0; handle = 0; events = (s .count ∙ ap (λ (l : Listed). length (l .events)) all) j });

@@ -1,16 +1,19 @@
 -- A list of requests is its items' messages one after the other: what it sends, and the table that it leaves, are those of the session.
+use Prim.Native.Nat.{_≤_}
 use mathlib.Core.List.{List, [], _∷_, _++_, map}
 use mathlib.Core.Path.{_≡_, refl, ap}
 use lib.Dec.{T}
 use lib.ListN.{length}
+use Rattle.common.specs.Tests.{all}
 use Rattle.table.specs.Table.{Table}
 use Rattle.table.specs.Sound.{sound}
 use Rattle.locks.specs.declared.Item.{Item}
 use Rattle.locks.specs.Settle.{Event}
 use Rattle.locks.specs.Serve.{serve}
-use Rattle.locks.specs.Session.{tableAfter, events}
-use Rattle.locks.specs.List.{asked, serveList}
+use Rattle.locks.specs.Session.{tableAfter, events, requests}
+use Rattle.locks.specs.List.{asked, serveList, maxListEvents}
 use Rattle.locks.proofs.Served.{serve-sound}
+use Rattle.locks.proofs.Weight.{requests-few}
 
 pub list-table : (t : Table) (is : List Item) → serveList t is .table ≡ tableAfter t (map asked is)
 unfolding serveList
@@ -33,3 +36,11 @@ pub list-sound : (t : Table) (is : List Item) → T (sound t) → T (sound (serv
 unfolding serveList
 list-sound t [] s = s
 list-sound t (i ∷ is) s = list-sound (serve t (asked i) .table) is (serve-sound t (asked i) s)
+
+-- "At most 512 events arise"
+all-requests : (is : List Item) → T (all requests (map asked is))
+all-requests [] = tt
+all-requests (i ∷ is) = all-requests is
+
+pub list-few : (t : Table) (is : List Item) → T (sound t) → length (serveList t is .events) ≤ maxListEvents
+list-few t is s = rw (list-events t is) (requests-few t (map asked is) (all-requests is) s)

@@ -59,7 +59,7 @@ use Rattle.serve.proofs.Answer as U
 use Rattle.serve.proofs.Answer.Laws as U′
 use Rattle.list.specs.Lists.{listRules, ServesList}
 use Rattle.list.specs.Posts.{itemAt, outcomeOf, Steps}
-use Rattle.list.proofs.Judging.{Passed, passed, list-refused}
+use Rattle.list.proofs.Judging.{passed, some-refusal, no-refusal, list-refused}
 use Rattle.list.proofs.Going.{State, begun, within, item-room, end-room, k-most, next, ended}
 use Rattle.list.proofs.Again.{LentAgain, lends-again, comes-back, LentShared, lends-shared, shared-back}
 use Rattle.list.proofs.Stand.{stand}
@@ -343,7 +343,23 @@ module _ {M : Type 1} (𝓤 : URA M) (H : Heap 𝓤) (A : Atoms 𝓤) (W : Given
           move ! (2 ∷ 0 ∷ []) $ group ! 2 $ use1 W (raw (Refusal 𝓤 H A mem run .pre (to-refusal ν δ))) (goes-refusal ν δ) $
           calls-at ! fm (Refusal 𝓤 H A mem run) judges (to-refusal ν δ) (and-then ! (load ! (from ! (stop !)) (look ! 28 refl)) (and-then ! (load ! (from ! (stop !)) (look ! 26 refl)) (and-then ! (load ! (from ! (stop !)) (look ! 38 refl)) (no-more !)))) (λ w.
           use1 W (later (some (λ (r : ℕ). ((‵ (flft (ν ∷ []) fullShare) ⊛ ‵ ftrue) ⊛ ‵ (u64 .own r (w ∷ []))) ⊛ raw (ensured 𝓤 H A refusal.ended (refusal.clauses 𝓤 H A mem run) (ν ∷ [], tt) (t δ ts₀, (length es₀, (n, tt))) tt r)))) (id⊢ 𝓤 _) $ await ! tt $ pick ! (λ r.
-          ?))))
+          split ! $ move ! (1 ∷ []) $ use1 W (some (λ (zs : Unit {0} × (Unit {0} × (Unit {0} × Unit {0}))). ‵ (lasts refusal.ended (ν ∷ [], tt) (t δ ts₀, (length es₀, (n, tt))) zs) ⊛ raw (fact 𝓤 (r ≡ firstHit (listRules ts₀ (length es₀) n))))) (id⊢ 𝓤 _) $ pick ! (λ zs.
+          split ! $ move ! (1 ∷ []) $ heard ! (r ≡ firstHit (listRules ts₀ (length es₀) n)) (λ h. drop ! $
+          -- [the token and the result; kept; κ₁; κ₂; the events; the items; _20; …]
+          split ! $ move ! (1 ∷ []) $ peeks ! u64 (Is u64) (shows 𝓤 H A u64) r (w ∷ []) (λ is.
+          land ! (from ! (stop !)) (init ! 37 refl (uint-lawful 𝓤 H A W w64 .typed r _ is .0)) $ rewrite ! 37 (λ (u : Val). ‵ (fat fullShare word l₅ 0 u)) (ap only (is .0)) refl $ drop ! $
+          split ! $ lft-end ! tt $ move ! (1 ∷ []) $ drop ! $
+          use2 W (later (‵ (MutSlice (named 0) κ₀ u8 .own (t γ₀ ts₀) (s₀ ∷ [])) ⊛ ‵ (flft κ₀ q₀))) (shared-back u8 κ₀ (ν ∷ []) q₀ γ₀ b₀ o₀ (length ts₀) 𝓤 H A W (named 0) (named 0) ts₀ room₀ refl) $ await ! tt $ split ! $ move ! (1 ∷ 2 ∷ 3 ∷ 0 ∷ []) $
+          -- [the tokens; the slices; _20; …]
+          assigns ! (bin ! (load ! (from ! (stop !)) (look ! 36 refl)) (lit ! tt) tt) (from ! (stop !)) (init ! 24 refl (tt, tt)) $
+          first ! $ branches ! (load ! (from ! (stop !)) (look ! 24 refl))
+          (λ bad. assigns ! (agg ! (and-then ! (load ! (from ! (stop !)) (look ! 36 refl)) (and-then ! (lit ! tt) (and-then ! (lit ! tt) (no-more !))))) (from ! (stop !)) (init ! 46 refl (LL.lawful U.the-type U′.the-laws 𝓤 H A W .typed (record { refusal = r; handle = 0; events = 0 }) _ (answer-is r 0 0 (is .1) (lit< tt) (lit< tt)) .0)) $
+          returns-within ! Post refl (look ! 46 refl) $ forget ! 24 refl $ forget ! 26 refl $ forget ! 28 refl $ forget ! 30 refl $ forget ! 36 refl $ forget ! 38 refl $ forget ! 40 refl $ forget ! 42 refl $ forget ! 44 refl $ forget ! 46 refl $
+          move ! (46 ∷ 47 ∷ []) $ free1 ! $ move ! (44 ∷ 45 ∷ []) $ free1 ! $ move ! (42 ∷ 43 ∷ []) $ free1 ! $ move ! (40 ∷ 41 ∷ []) $ free1 ! $ move ! (38 ∷ 39 ∷ []) $ free1 ! $ move ! (36 ∷ 37 ∷ []) $ free1 ! $ move ! (34 ∷ 35 ∷ []) $ free1 ! $ move ! (32 ∷ 33 ∷ []) $ free1 ! $ move ! (30 ∷ 31 ∷ []) $ free1 ! $ move ! (28 ∷ 29 ∷ []) $ free1 ! $ move ! (26 ∷ 27 ∷ []) $ free1 ! $ move ! (24 ∷ 25 ∷ []) $ free1 ! $ move ! (22 ∷ 23 ∷ []) $ free1 ! $ move ! (20 ∷ 21 ∷ []) $ free1 ! $ move ! (18 ∷ 19 ∷ []) $ free1 ! $ move ! (16 ∷ 17 ∷ []) $ free1 ! $ move ! (14 ∷ 15 ∷ []) $ free1 ! $ move ! (12 ∷ 13 ∷ []) $ free1 ! $ move ! (10 ∷ 11 ∷ []) $ free1 ! $ move ! (8 ∷ 9 ∷ []) $ free1 ! $ move ! (6 ∷ 7 ∷ []) $ free1 ! $ free0 ! $
+          by ! (exits (record { refusal = r; handle = 0; events = 0 }) _ ts₀ es₀ xs₀ (list-refused xs₀ ts₀ es₀ r h (some-refusal r bad)) refl refl refl (answer-is r 0 0 (is .1) (lit< tt) (lit< tt))))
+          (λ ok. skips ! $ exec ! C Λ En m.t-8 (atRet En Post) $ forget ! 24 refl $ forget ! 26 refl $ forget ! 28 refl $ forget ! 30 refl $ forget ! 36 refl $
+          assigns ! (of-opd ! (lit ! tt)) (from ! (stop !)) (init ! 34 refl (tt, record { fits = lit< tt })) $ assigns ! (of-opd ! (lit ! tt)) (from ! (stop !)) (init ! 32 refl (tt, record { fits = lit< tt })) $
+          first ! $ blocks ! $ loops ! 𝓣 Nearer Nearer-wf At turns (begun xs₀ ts₀ es₀ (passed xs₀ ts₀ es₀ (sym h ∙ no-refusal r ok)))))))))))
 
     walk : ent 𝓤 (onEntry 𝓤 H A f.signature (κ₀, (κ₁, (κ₂, tt))) (q₀, (q₁, (q₂, tt))) a ats) (WpFn 𝓤 H C Λ code.function (s₀ ∷ s₁ ∷ s₂ ∷ []) Post)
     walk =
