@@ -98,7 +98,7 @@ fn finish(b: &mut [u8], k: usize) -> Answer
 }
 
 // Serves a list on bytes of which nothing is known.
-pub fn list(table: &mut [u8], events: &mut [u8], items: &mut [Item]) -> Answer
+pub fn serve_list(table: &mut [u8], events: &mut [u8], items: &mut [Item]) -> Answer
     ensures { λ r. ⌜ ServesList (now (items .entry)) (now (table .entry)) (now (events .entry)) r (now (items .exit)) (now (table .exit)) (now (events .exit)) ⌝ }
 {
     let n = items.len();

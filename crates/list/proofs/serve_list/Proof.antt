@@ -1,4 +1,4 @@
--- `list`: a walk of its MIR. The table is lent to be judged; a list that is refused ends there. Else a loop goes over the items: each turn lends the three slices again to `step`, each for a lifetime that is made for the call (`Again.antt`), and takes them back as `step` left them. At the end the events are lent to `finish`.
+-- `serve_list`: a walk of its MIR. The table is lent to be judged; a list that is refused ends there. Else a loop goes over the items: each turn lends the three slices again to `step`, each for a lifetime that is made for the call (`Again.antt`), and takes them back as `step` left them. At the end the events are lent to `finish`.
 -- The loop's variant is the `State` of `Going.antt`, which holds the facts too, so the invariant is a plain context: the three tokens, the three borrows, and the locals.
 -- All that the proof knows of `list_refusal`, `step` and `finish` is that they meet their contracts.
 use mathlib.Core.Path.{_≡_, refl, sym, _∙_, ap, subst}
@@ -75,11 +75,11 @@ use Rattle.list.proofs.finish as finish
 use Rattle.list.proofs.finish.Symbol as finish-def
 use Rattle.list.proofs.finish.Symbol.{name as #finish}
 use Rattle.list.proofs.finish.Met as finish-thm
-use Rattle.list.proofs.list.Key.{name as #list}
-use Rattle.list.proofs.list as f
-use Rattle.list.proofs.list.Statement as stated
-use Rattle.list.proofs.list.Code as code
-use Rattle.list.proofs.list.Code.Mir as m
+use Rattle.list.proofs.serve_list.Key.{name as #serve-list}
+use Rattle.list.proofs.serve_list as f
+use Rattle.list.proofs.serve_list.Statement as stated
+use Rattle.list.proofs.serve_list.Code as code
+use Rattle.list.proofs.serve_list.Code.Mir as m
 
 abbrev stayed : Stays (f.ended .signature .params) (f.ended .kept)
 stayed = (stay-slice (0 ∷ []) tt (plain (λ _. u8)), (stay-slice (1 ∷ []) tt (plain (λ _. u8)), (stay-slice (2 ∷ []) tt (plain (λ _. T.the-row)), tt)))
@@ -372,27 +372,27 @@ module _ {M : Type 1} (𝓤 : URA M) (H : Heap 𝓤) (A : Atoms 𝓤) (W : Given
         begins l₀ l₁ l₂ l₃ l₄ l₅ l₆ l₇ l₈ l₉ l₁₀ l₁₁ l₁₂ l₁₃ l₁₄ l₁₅ l₁₆ l₁₇ l₁₈ l₁₉ l₂₀)))))))))))))))))))))
 
 module _ {M : Type 1} (𝓤 : URA M) (H : Heap 𝓤) (A : Atoms 𝓤) (W : Given 𝓤 H A) (mem : Memory → SProp 𝓤) (run : Routine → Fun 𝓤) where
-  list-walks : (𝓣 : Tables 𝓤 H) → Triple 𝓤 (𝓣 .C #list-refusal) (Refusal 𝓤 H A mem run) → Triple 𝓤 (𝓣 .C #step) (Step 𝓤 H A mem run) → Triple 𝓤 (𝓣 .C #finish) (Finish 𝓤 H A mem run) → Walks 𝓤 H A f.ended stayed (WpFn 𝓤 H (𝓣 .C) (𝓣 .Λ) code.function) (f.clauses 𝓤 H A mem run)
-  list-walks 𝓣 judges steps finishes = walked 𝓤 H A f.ended stayed (f.clauses 𝓤 H A mem run) (WpFn 𝓤 H (𝓣 .C) (𝓣 .Λ) code.function)
+  serve-list-walks : (𝓣 : Tables 𝓤 H) → Triple 𝓤 (𝓣 .C #list-refusal) (Refusal 𝓤 H A mem run) → Triple 𝓤 (𝓣 .C #step) (Step 𝓤 H A mem run) → Triple 𝓤 (𝓣 .C #finish) (Finish 𝓤 H A mem run) → Walks 𝓤 H A f.ended stayed (WpFn 𝓤 H (𝓣 .C) (𝓣 .Λ) code.function) (f.clauses 𝓤 H A mem run)
+  serve-list-walks 𝓣 judges steps finishes = walked 𝓤 H A f.ended stayed (f.clauses 𝓤 H A mem run) (WpFn 𝓤 H (𝓣 .C) (𝓣 .Λ) code.function)
       (λ κs. (slice-vals, (slice-vals, (slice-vals, tt))))
       (λ κs. (mut-slice-tells (named 0) (κs .0) u8, (mut-slice-tells (named 1) (κs .1 .0) u8, (mut-slice-tells (named 2) (κs .1 .1 .0) T.the-row, tt))))
       (λ κs qs bounds a g are. via 𝓤 _ (fst∗ 𝓤 _ (emp 𝓤))
       (walk 𝓤 H A W mem run (κs .0) (κs .1 .0) (κs .1 .1 .0) (qs .0) (qs .1 .0) (qs .1 .1 .0) (a .0 .ptr .0) (a .0 .ptr .1) (a .0 .name) (a .0 .now) (a .1 .0 .ptr .0) (a .1 .0 .ptr .1) (a .1 .0 .name) (a .1 .0 .now)
       (a .1 .1 .0 .ptr .0) (a .1 .1 .0 .ptr .1) (a .1 .1 .0 .name) (a .1 .1 .0 .now) (are .0 .0 .1) (are .1 .0 .0 .1) (are .1 .1 .0 .0 .1) 𝓣 (fmOf 𝓤 H (W .laws) 𝓣) judges steps finishes))
 
-list-meets : {M : Type 1} (𝓤 : URA M) (H : Heap 𝓤) (A : Atoms 𝓤) → Given 𝓤 H A → (mem : Memory → SProp 𝓤) (run : Routine → Fun 𝓤) (𝓣 : Tables 𝓤 H) → Triple 𝓤 (𝓣 .C #list-refusal) (Refusal 𝓤 H A mem run) → Triple 𝓤 (𝓣 .C #step) (Step 𝓤 H A mem run) → Triple 𝓤 (𝓣 .C #finish) (Finish 𝓤 H A mem run)
+serve-list-meets : {M : Type 1} (𝓤 : URA M) (H : Heap 𝓤) (A : Atoms 𝓤) → Given 𝓤 H A → (mem : Memory → SProp 𝓤) (run : Routine → Fun 𝓤) (𝓣 : Tables 𝓤 H) → Triple 𝓤 (𝓣 .C #list-refusal) (Refusal 𝓤 H A mem run) → Triple 𝓤 (𝓣 .C #step) (Step 𝓤 H A mem run) → Triple 𝓤 (𝓣 .C #finish) (Finish 𝓤 H A mem run)
     → Meets 𝓤 H A f.signature (WpFn 𝓤 H (𝓣 .C) (𝓣 .Λ) code.function) (f.spec 𝓤 H A mem run)
-list-meets 𝓤 H A W mem run 𝓣 judges steps finishes =
+serve-list-meets 𝓤 H A W mem run 𝓣 judges steps finishes =
     walk-meets 𝓤 H A f.ended stayed W
     (goes-slice 𝓤 H A W 3 0 tt (plain (λ _. u8)), (goes-slice 𝓤 H A W 3 1 tt (plain (λ _. u8)), (goes-slice 𝓤 H A W 3 2 tt (plain (λ _. T.the-row)), tt)))
-    (f.clauses 𝓤 H A mem run) (WpFn 𝓤 H (𝓣 .C) (𝓣 .Λ) code.function) (WpFn-mono 𝓤 H (W .laws) 𝓣 code.function) (list-walks 𝓤 H A W mem run 𝓣 judges steps finishes)
+    (f.clauses 𝓤 H A mem run) (WpFn 𝓤 H (𝓣 .C) (𝓣 .Λ) code.function) (WpFn-mono 𝓤 H (W .laws) 𝓣 code.function) (serve-list-walks 𝓤 H A W mem run 𝓣 judges steps finishes)
 
-pub list-spec : {M : Type 1} → stated.statement M
+pub serve-list-spec : {M : Type 1} → stated.statement M
 unfolding code.routine tablesOf
-list-spec 𝓤 H 𝓜 𝓖 𝓡 =
+serve-list-spec 𝓤 H 𝓜 𝓖 𝓡 =
     entered 𝓤 H (tripleOf 𝓤 H (𝓖 .A) f.signature (f.spec 𝓤 H (𝓖 .A) (𝓜 .mem) (𝓡 .run)))
-    (tables 𝓤 H 𝓜 𝓡 code.env .C) (tables 𝓤 H 𝓜 𝓡 code.env .Λ) #list code.function (code.unfolded 𝓤 H 𝓜 𝓡)
-    (list-meets 𝓤 H (𝓖 .A) (givenOf 𝓤 H 𝓜 𝓖) (𝓜 .mem) (𝓡 .run) (tablesOf 𝓤 H 𝓜 (tables 𝓤 H 𝓜 𝓡 code.env))
+    (tables 𝓤 H 𝓜 𝓡 code.env .C) (tables 𝓤 H 𝓜 𝓡 code.env .Λ) #serve-list code.function (code.unfolded 𝓤 H 𝓜 𝓡)
+    (serve-list-meets 𝓤 H (𝓖 .A) (givenOf 𝓤 H 𝓜 𝓖) (𝓜 .mem) (𝓡 .run) (tablesOf 𝓤 H 𝓜 (tables 𝓤 H 𝓜 𝓡 code.env))
     (cited 𝓤 H (Refusal 𝓤 H (𝓖 .A) (𝓜 .mem) (𝓡 .run)) 𝓜 𝓡 code.env #list-refusal refusal-def.routine code.calls-list·list-refusal (refusal-thm.met 𝓤 H 𝓜 𝓖 𝓡))
     (cited 𝓤 H (Step 𝓤 H (𝓖 .A) (𝓜 .mem) (𝓡 .run)) 𝓜 𝓡 code.env #step step-def.routine code.calls-list·step (step-thm.met 𝓤 H 𝓜 𝓖 𝓡))
     (cited 𝓤 H (Finish 𝓤 H (𝓖 .A) (𝓜 .mem) (𝓡 .run)) 𝓜 𝓡 code.env #finish finish-def.routine code.calls-list·finish (finish-thm.met 𝓤 H 𝓜 𝓖 𝓡)))
