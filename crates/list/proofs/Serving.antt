@@ -18,8 +18,8 @@ use Rattle.locks.specs.Serve.{Outcome, served, answered, change, serve}
 use Rattle.locks.specs.List.{asked, answeredItem}
 use Rattle.locks.proofs.Served.{by-served, serve-sound}
 use Rattle.serve.specs.declared.Answer.{Answer}
+use Rattle.serve.specs.Posts.{Behind}
 use Rattle.list.specs.Posts.{outcomeOf, ServesItem}
-use Rattle.list.specs.Temp.{Behind}
 
 -- the shape that the bytes have, told by their own count
 pub own-count : (n : ℕ) (u : List ℕ) → Shape n u → Shape (countOf u) u

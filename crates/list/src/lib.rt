@@ -15,36 +15,13 @@ ghost use Rattle.list.specs.Posts.{itemAt, outcomeOf, ServesItem, Steps}
 // How many bytes a list's event buffer has at least.
 pub const LIST_EVENTS_BYTES: usize = locks::EVENTS + locks::EVENT_BYTES * locks::LIST_EVENTS;
 
-// TEMPORARY
-ghost use Rattle.common.specs.Counters.{width};
-ghost use Rattle.table.specs.Bytes.{tableOf};
-ghost use Rattle.locks.specs.declared.Message.the-variants.{Request};
-ghost use Rattle.locks.specs.Serve.{serve};
-ghost use Rattle.list.specs.Temp.{Behind};
-
-extern "C" {
-    fn ask(
-        t: &mut [u8],
-        b: &mut [u8],
-        n: usize,
-        j: usize,
-        client: u64,
-        stripe: u64,
-        mode: u64,
-        first: u64,
-        last: u64,
-    ) -> Answer
-        requires { ⌜ Good n (now t) × Room (j + length (serve (tableOf width (now t)) (Request client stripe mode first last) .events)) (now b) ⌝ }
-        ensures { λ r. ⌜ Behind j (serve (tableOf width (now (t .entry))) (Request client stripe mode first last)) (now (t .entry)) (now (b .entry)) r (now (t .exit)) (now (b .exit)) ⌝ };
-}
-
 // Serves one item behind k events, and hands it back with its answer in it.
 fn serve_item(t: &mut [u8], b: &mut [u8], k: usize, x: Item) -> Item
     requires { ⌜ Good (countOf (now t)) (now t) × Room (k + length (outcomeOf (now t) x .events)) (now b) ⌝ }
     ensures { λ r. ⌜ ServesItem k x (now (t .entry)) (now (b .entry)) r (now (t .exit)) (now (b .exit)) ⌝ }
 {
     let n = table::count(t);
-    let a = ask(t, b, n, k, x.client, x.stripe, x.mode, x.first, x.last);
+    let a = serve::ask(t, b, n, k, x.client, x.stripe, x.mode, x.first, x.last);
     Item {
         client: x.client,
         stripe: x.stripe,
