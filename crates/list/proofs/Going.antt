@@ -22,7 +22,7 @@ use Rattle.locks.specs.declared.Item.{Item}
 use Rattle.locks.specs.Settle.{Event}
 use Rattle.locks.specs.Serve.{Outcome}
 use Rattle.locks.specs.Events.{eventFields, eventsOver, Room}
-use Rattle.locks.specs.List.{asked, answeredItem, Listed, before, serveList, maxItems, maxListEvents}
+use Rattle.locks.specs.List.{requestOf, answeredItem, Listed, before, serveList, maxItems, maxListEvents}
 use Rattle.locks.proofs.Served.{serve-sound}
 use Rattle.locks.proofs.Lists.{list-few}
 use Rattle.settle.specs.Posts.{putEvents}
@@ -70,7 +70,7 @@ on-bytes b₀ b c k es fs p q h =
 
 -- a step leaves a good table
 pub step-good : (t u : List ℕ) (x : Item) → Good (countOf t) t → Holds (countOf u) (outcomeOf t x .table) u → Good (countOf u) u
-step-good t u x G H = record { shape = H .shape; sounds = subst (λ (Y : Table). T (sound Y)) (sym (H .says)) (serve-sound (tableOf width t) (asked x) (G .sounds)) }
+step-good t u x G H = record { shape = H .shape; sounds = subst (λ (Y : Table). T (sound Y)) (sym (H .says)) (serve-sound (tableOf width t) (requestOf x) (G .sounds)) }
 
 module _ (xs₀ : List Item) (t₀ b₀ : List ℕ) where
   abbrev whole : Listed

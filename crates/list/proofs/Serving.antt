@@ -15,7 +15,7 @@ use Rattle.table.proofs.Records.{locks-length}
 use Rattle.locks.specs.declared.Item.{Item}
 use Rattle.locks.specs.Refusals.{rules}
 use Rattle.locks.specs.Serve.{Outcome, served, answered, change, serve}
-use Rattle.locks.specs.List.{asked, answeredItem}
+use Rattle.locks.specs.List.{requestOf, answeredItem}
 use Rattle.locks.proofs.Served.{by-served, serve-sound}
 use Rattle.serve.specs.declared.Answer.{Answer}
 use Rattle.serve.specs.Posts.{Behind}
@@ -34,10 +34,10 @@ still o t u S z same table = go (eqb (o .refusal) 0) z same table
     go true z same table = record { shape = own-count (length (o .table .locks)) u (table tt .shape); says = table tt .says }
     go false z same table = subst (λ (v : List ℕ). Holds (countOf v) (o .table) v) (sym (same tt)) (record { shape = S; says = sym (z tt) })
 
-refused-table : (x : Item) (X : Table) → T (not (eqb (serve X (asked x) .refusal) 0)) → serve X (asked x) .table ≡ X
+refused-table : (x : Item) (X : Table) → T (not (eqb (serve X (requestOf x) .refusal) 0)) → serve X (requestOf x) .table ≡ X
 unfolding serve
 refused-table x X =
-    by-served (rules X (asked x)) (answered X (asked x)) (change X (asked x)) X (λ (o : Outcome). T (not (eqb (o .refusal) 0)) → o .table ≡ X) (λ e n. absurd n) (λ n. refl)
+    by-served (rules X (requestOf x)) (answered X (requestOf x)) (change X (requestOf x)) X (λ (o : Outcome). T (not (eqb (o .refusal) 0)) → o .table ≡ X) (λ e n. absurd n) (λ n. refl)
 
 pub item-served : (k : ℕ) (x : Item) (t b : List ℕ) (a : Answer) (u c : List ℕ) → Good (countOf t) t → Behind k (outcomeOf t x) t b a u c
     → ServesItem k x t b (record { client = x .client; stripe = x .stripe; mode = x .mode; first = x .first; last = x .last; refusal = a .refusal; handle = a .handle; events = a .events }) u c

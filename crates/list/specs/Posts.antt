@@ -8,7 +8,7 @@ use Rattle.table.specs.Bytes.{tableOf}
 use Rattle.table.specs.Places.{countOf, Holds}
 use Rattle.locks.specs.declared.Item.{Item}
 use Rattle.locks.specs.Serve.{Outcome, serve}
-use Rattle.locks.specs.List.{asked, answeredItem}
+use Rattle.locks.specs.List.{requestOf, answeredItem}
 use Rattle.settle.specs.Posts.{putEvents}
 
 -- the item at place i; nothing is asked past the end
@@ -20,7 +20,7 @@ itemAt xs i = getD xs i blank
 
 -- what becomes of the item x on the table in t
 abbrev pub outcomeOf : List ℕ → Item → Outcome
-outcomeOf t x = serve (tableOf width t) (asked x)
+outcomeOf t x = serve (tableOf width t) (requestOf x)
 
 -- the item x, served on the table t and behind k events, comes back as r, and u and c are the table and the event buffer after it
 pub record ServesItem (k : ℕ) (x : Item) (t b : List ℕ) (r : Item) (u c : List ℕ) : Type 0 where

@@ -21,7 +21,18 @@ fn serve_item(t: &mut [u8], b: &mut [u8], k: usize, x: Item) -> Item
     ensures { λ r. ⌜ ServesItem k x (now (t .entry)) (now (b .entry)) r (now (t .exit)) (now (b .exit)) ⌝ }
 {
     let n = table::count(t);
-    let a = serve::ask(t, b, n, k, x.client, x.stripe, x.mode, x.first, x.last);
+    let a = serve::ask(
+        t,
+        b,
+        n,
+        k,
+        x.client,
+        x.stripe,
+        x.mode,
+        x.first,
+        x.last,
+        true,
+    );
     Item {
         client: x.client,
         stripe: x.stripe,

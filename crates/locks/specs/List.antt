@@ -1,6 +1,7 @@
 -- Lists of requests: document 02, #101, "Lists of locks ahead of a write".
 use Prim.Native.Nat.{ℕ, _*_}
 use mathlib.Core.Path.{_≡_, refl}
+use mathlib.Core.Bool.{true}
 use mathlib.Core.List.{List, [], _∷_, _++_}
 use lib.ListN.{length}
 use Rattle.xdr.specs.Array.{arraySize}
@@ -12,12 +13,12 @@ use Rattle.locks.specs.Settle.{Event}
 use Rattle.locks.specs.Serve.{Outcome, serve}
 use Rattle.locks.specs.Events.{eventLayout}
 
--- "up to 64 descriptions (client, stripe, mode, first, last)": how many there are at most, and the message that one of them is
+-- "up to 64 descriptions (client, stripe, mode, first, last)": how many there are at most. "Such a request is marked": the message that one of them is
 abbrev pub maxItems : ℕ
 maxItems = 64
 
-abbrev pub asked : Item → Message
-asked i = Request (i .client) (i .stripe) (i .mode) (i .first) (i .last)
+abbrev pub requestOf : Item → Message
+requestOf i = Request (i .client) (i .stripe) (i .mode) (i .first) (i .last) true
 
 -- "find each one's answer stored in its own description": what was asked stays
 abbrev pub answeredItem : Item → Outcome → Item
@@ -46,7 +47,7 @@ before i o l = record { items = answeredItem i o ∷ l .items; table = l .table;
 -- "The list must give the table, answers and event sequence of single marked requests in list order."
 unfoldable pub serveList : Table → List Item → Listed
 serveList t [] = record { items = []; table = t; events = [] }
-serveList t (i ∷ is) = before i (serve t (asked i)) (serveList (serve t (asked i) .table) is)
+serveList t (i ∷ is) = before i (serve t (requestOf i)) (serveList (serve t (requestOf i) .table) is)
 
 -- "At most 512 events arise, so a list's event buffer has 22,532 bytes."
 abbrev pub maxListEvents : ℕ
