@@ -12,11 +12,16 @@ use Rattle.common.specs.Counters.{width}
 use Rattle.table.specs.Bytes.{tableOf}
 use Rattle.line.specs.declared.Read.{Read}
 use Rattle.lines.specs.declared.Scan.{Scan}
-use Rattle.line.specs.Format.{readLine}
+use Rattle.line.specs.Format.{readLine, Single}
+use Rattle.line.proofs.Single.{read-single}
 use Rattle.lines.specs.Lines.{linesFrom}
 use Rattle.lines.specs.Buffers.{Keeps, Saying, Gathered, Gathers}
 use Rattle.session.specs.Session.{answer, answers, tableAfter, writtenFrom, saidIn}
 use Rattle.session.specs.Buffers.{Ready, Answers, Feeds, Ends}
+
+-- what a line says comes by itself
+pub said-single : (last : Bool) (line : List ℕ) (n : ℕ) {r : Read} → Saying last line n r → Single r
+said-single last line n S = subst Single (sym (S (take n line) (inl refl))) (read-single _)
 
 -- gathering met no break, or it met the break of a line, which is answered
 module _ {piece before line t e out : List ℕ} {n : ℕ} {g : Scan} (y : Ready before n t e out) (G : Gathers piece before n line g) (z : length line ≡ length before) where

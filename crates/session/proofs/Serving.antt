@@ -12,9 +12,11 @@ use Rattle.table.specs.Table.{Table, maxRecords}
 use Rattle.table.specs.Sound.{sound}
 use Rattle.table.specs.Bytes.{tableOf, soundTableBytes}
 use Rattle.locks.specs.declared.Message.{Message}
+use Rattle.locks.specs.declared.Message.the-variants.{Request}
 use Rattle.locks.specs.Settle.{settle}
 use Rattle.locks.specs.Refusals.{refusal}
 use Rattle.locks.specs.Serve.{Outcome, change, answered, accepted, refused, serve}
+use Rattle.locks.specs.Session.{single}
 use Rattle.locks.specs.Events.{eventFields, eventsSize, eventsOver}
 use Rattle.locks.proofs.Events.{serve-once}
 use Rattle.locks.proofs.Fitting.{serve-fit}
@@ -30,6 +32,11 @@ use Rattle.text.specs.Buffers.{Wrote, eventsIn}
 use Rattle.text.proofs.Writing.{wrote-front}
 use Rattle.text.proofs.Events.{events-read}
 use Rattle.session.specs.Buffers.{Lent, Answers}
+
+-- a message that comes by itself is served by the entry that takes no mark
+pub unmarked : {m : Message} {x s k f l : ℕ} {d : Bool} {t b u c : List ℕ} {r : Answer} → T (single m) → m ≡ Request x s k f l d → Serves (Request x s k f l false) t b r u c → Serves m t b r u c
+unmarked {d = true} h e L = absurd (subst (λ (y : Message). T (single y)) e h)
+unmarked {d = false} {t = t} {b = b} {u = u} {c = c} {r = r} h e L = subst (λ (y : Message). Serves y t b r u c) (sym e) L
 
 -- a refused call has no events
 refused-none : (x : Table) (m : Message) → eqb (serve x m .refusal) 0 ≡ false → serve x m .events ≡ []

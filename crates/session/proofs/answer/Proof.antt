@@ -1,7 +1,8 @@
 -- `answer`: the entry's events stand in the event buffer, and the lines of the answer are put from there.
-use mathlib.Core.Path.{refl}
+use mathlib.Core.Path.{refl, subst}
 use native.Mathlib.Omega.{arith}
 use borrow.Author.Needs.{needs}
+use Rattle.line.specs.Format.{Single}
 use Rattle.session.proofs.Serving.{counted, answered-good, answered-bad}
 use Rattle.session.proofs.answer.Statement.{statement}
 use Rattle.session.proofs.answer.Tie as tie
@@ -11,6 +12,9 @@ called c = c .before .before .before .before .before .before .before .before .be
 
 put-bad-requires : tie.Need-put-bad-requires
 put-bad-requires c κs = search needs
+
+call-requires : tie.Need-call-requires
+call-requires c κs = subst Single (c .before .before .before .r .given .1) (c .before .before .before .before .before .before .before .before .pre .1)
 
 put-outcome-requires : tie.Need-put-outcome-requires
 put-outcome-requires c κs =
@@ -33,6 +37,6 @@ good c =
 pub answer-spec : {M : Type 1} → statement M
 answer-spec =
     tie.close
-    (tie.spec (λ c. search needs) put-bad-requires (λ c. search needs) (λ c κs. search needs) put-outcome-requires
+    (tie.spec (λ c. search needs) put-bad-requires (λ c. search needs) call-requires put-outcome-requires
     (λ c. c .before .before .put-bad .kept .0) bad (λ c. called c .call .kept .0) (λ c. called c .call .kept .1 .0)
     (λ c. c .before .before .put-outcome .kept .0) good)

@@ -1,12 +1,13 @@
 -- `call`: each arm of the match serves its message.
 use borrow.Author.Needs.{needs}
+use Rattle.session.proofs.Serving.{unmarked}
 use Rattle.session.proofs.call.Statement.{statement}
 use Rattle.session.proofs.call.Tie as tie
 
 requests : tie.Need-returns
 requests c =
     let e = c .before .before .before .before in
-    unmarked (e .before .before .before .before .before .before .pre) (e .before .before .before .before .m .given .1) (e .gil-request .ensures)
+    unmarked (e .before .before .before .before .before .before .before .before .pre) (e .before .before .before .before .m .given .1) (e .gil-request .ensures)
 
 acknowledges : tie.Need-returns-2
 acknowledges c = let e = c .before .before .before .before in rw (e .before .before .before .before .m2 .given .1) (e .gil-acknowledge .ensures)

@@ -1,6 +1,6 @@
 -- `end`: a line of which nothing is kept is none; any other is read without a break.
 use borrow.Author.Needs.{needs}
-use Rattle.session.proofs.Feeding.{ended-none, ended-last}
+use Rattle.session.proofs.Feeding.{said-single, ended-none, ended-last}
 use Rattle.session.proofs.end.Statement.{statement}
 use Rattle.session.proofs.end.Tie as tie
 
@@ -18,5 +18,5 @@ last c =
 pub end-spec : {M : Type 1} → statement M
 end-spec =
     tie.close
-    (tie.spec none (λ c κs. search needs) (λ c κs. c .before .before .before .before .before .before .before .before .before .pre .lent) (λ c. answered c .answer .kept .0)
+    (tie.spec none (λ c κs. search needs) (λ c κs. (c .before .before .before .before .before .before .before .before .before .pre .lent, search said-single)) (λ c. answered c .answer .kept .0)
     (λ c. answered c .answer .kept .1 .0) (λ c. answered c .answer .kept .1 .1 .0) last)

@@ -1,7 +1,7 @@
 -- `feed`: a line that ends in the piece is answered; where none does, nothing is to be written.
 use borrow.Author.Needs.{needs}
 use borrow.Author.Tests.{not-true, not-false}
-use Rattle.session.proofs.Feeding.{fed-part, fed-line}
+use Rattle.session.proofs.Feeding.{said-single, fed-part, fed-line}
 use Rattle.session.proofs.feed.Statement.{statement}
 use Rattle.session.proofs.feed.Tie as tie
 
@@ -22,6 +22,6 @@ whole c =
 pub feed-spec : {M : Type 1} → statement M
 feed-spec =
     tie.close
-    (tie.spec (λ c κs. search needs) (λ c. c .before .before .before .before .gather .kept .1 .0) part (λ c κs. search needs) (λ c κs. c .before .before .before .before .before .before .before .before .before .before .before .before .before .before .before .before .pre .lent)
+    (tie.spec (λ c κs. search needs) (λ c. c .before .before .before .before .gather .kept .1 .0) part (λ c κs. search needs) (λ c κs. (c .before .before .before .before .before .before .before .before .before .before .before .before .before .before .before .before .pre .lent, search said-single))
     (λ c. answered c .before .before .before .before .before .before .before .before .before .before .gather .kept .1 .0) (λ c. answered c .answer .kept .0) (λ c. answered c .answer .kept .1 .0)
     (λ c. answered c .answer .kept .1 .1 .0) whole)
