@@ -9,7 +9,7 @@
  *   2. Cuts: what must be durable, and in which order.
  *   3. Sizes, limits and codes.
  *   4. Refusals, and what to do about each.
- *   5. The lock table: request, acknowledge, downgrade, release, and their events.
+ *   5. The lock table: request, acknowledge, downgrade, release, and their events; lists of requests.
  *   6. The stripe: note, write, restart.
  */
 #ifndef GILBORETH_H
@@ -32,7 +32,8 @@ extern "C" {
  *   - The buffers of one call don't overlap.
  *   - A pointer is null only where its length is 0. Such a buffer is answered as an empty one. (The proof
  *     speaks of buffers that are there; for null pointers this is tested, for every buffer of every call.)
- *   - Each buffer has at least the length that is passed with it.
+ *   - Each buffer has at least the length that is passed with it. A list's items are a buffer like the others;
+ *     how many they are is passed, not how many bytes.
  *   - One call at a time on a buffer. Nothing else reads or changes it until the call returns.
  *     Calls on different buffers may run at the same time.
  *   - Table, map and log start as zero bytes: that is the empty table, the empty map, the empty log.
@@ -89,23 +90,29 @@ extern "C" {
  *
  * The buffers are XDR (RFC 4506): big-endian, 4 or 8 bytes a number, an array as its 4-byte count and
  * then its elements.
+ *
+ * Until there were lists a record had 40 bytes, and a table 10,312. Such a table is refused with TABLE. To go
+ * on with one, put 4 zero bytes after each of its records, and zeros after the last one up to 11,336.
  */
-#define GIL_TABLE_BYTES 10312  /* handles issued, 16 last numbers, array of records; zeros after it */
-#define GIL_EVENTS_BYTES 11268 /* array of events; bytes after it stay as they are */
-#define GIL_MAP_BYTES 20484    /* array of runs; zeros after it */
-#define GIL_LOG_BYTES 40964    /* array of entries; bytes after it may be anything */
+#define GIL_TABLE_BYTES 11336       /* handles issued, 16 last numbers, array of records; zeros after it */
+#define GIL_EVENTS_BYTES 11268      /* array of events; bytes after it stay as they are */
+#define GIL_LIST_EVENTS_BYTES 22532 /* the same for gil_request_list */
+#define GIL_MAP_BYTES 20484         /* array of runs; zeros after it */
+#define GIL_LOG_BYTES 40964         /* array of entries; bytes after it may be anything */
 
 #define GIL_BYTES_SHOWN 40 /* of a record: handle, client, stripe, mode, state, number; first, last: 8 bytes each */
-#define GIL_BYTES_PER_RECORD GIL_BYTES_SHOWN      /* what is shown */
-#define GIL_BYTES_PER_EVENT (4 + GIL_BYTES_SHOWN) /* kind, and then what is shown of the record */
+#define GIL_BYTES_PER_RECORD (GIL_BYTES_SHOWN + 4) /* what is shown; then 1 while a marked request waits, else 0 */
+#define GIL_BYTES_PER_EVENT (4 + GIL_BYTES_SHOWN)  /* kind, and then what is shown of the record */
 #define GIL_BYTES_PER_RUN 20    /* first, last: 8 bytes each; number. An entry of the log has the same shape. */
 
-#define GIL_MAX_CLIENTS 64   /* clients are 0 to 63 */
-#define GIL_MAX_STRIPES 16   /* stripes are 0 to 15 */
-#define GIL_MAX_RECORDS 256  /* held locks and waiting requests of a table */
-#define GIL_MAX_EVENTS 256   /* events of a call */
-#define GIL_MAX_RUNS 1024    /* runs of a map */
-#define GIL_MAX_ENTRIES 2048 /* entries of a log */
+#define GIL_MAX_CLIENTS 64      /* clients are 0 to 63 */
+#define GIL_MAX_STRIPES 16      /* stripes are 0 to 15 */
+#define GIL_MAX_RECORDS 256     /* held locks and waiting requests of a table */
+#define GIL_MAX_EVENTS 256      /* events of a call */
+#define GIL_MAX_ITEMS 64        /* items of a list */
+#define GIL_MAX_LIST_EVENTS 512 /* events of a list */
+#define GIL_MAX_RUNS 1024       /* runs of a map */
+#define GIL_MAX_ENTRIES 2048    /* entries of a log */
 
 #define GIL_HIGHEST UINT64_C(4294967295)      /* the highest handle, and the highest number */
 #define GIL_EOF UINT64_C(9223372036854775807) /* the last byte that a range can have */
@@ -131,7 +138,7 @@ extern "C" {
  * A call judges its refusals in the order that its comment lists. The first that holds is answered.
  */
 #define GIL_ACCEPTED 0
-#define GIL_REFUSED_EVENT_BUFFER 1  /* event buffer under 11,268 bytes */
+#define GIL_REFUSED_EVENT_BUFFER 1  /* event buffer under 11,268 bytes, for a list under 22,532 */
 #define GIL_REFUSED_TABLE 2         /* table of another length, or not sound */
 #define GIL_REFUSED_CLIENT 3        /* client above 63 */
 #define GIL_REFUSED_STRIPE 4        /* stripe above 15 */
@@ -149,6 +156,7 @@ extern "C" {
 #define GIL_REFUSED_RUNS 16         /* the resulting map needs over 1,024 runs */
 #define GIL_REFUSED_ENTRIES 17      /* log holds 2,048 entries */
 #define GIL_REFUSED_SMALLER 18      /* some byte of the piece has a smaller number in the map */
+#define GIL_REFUSED_ITEMS 19        /* list of more than 64 items */
 
 /* Says what happened, and what to do about it. The text is constant and never null. The Rust library has its
  * sentences from here. */
@@ -158,9 +166,9 @@ static inline const char *gil_refusal_text(uint64_t refusal)
     case GIL_ACCEPTED:
         return "Accepted.";
     case GIL_REFUSED_EVENT_BUFFER:
-        return "The event buffer is too short: lend 11,268 bytes.";
+        return "The event buffer is too short: lend 11,268 bytes, and for a list 22,532.";
     case GIL_REFUSED_TABLE:
-        return "The table has another length, or is not sound: lend the 10,312 bytes that the last call left; "
+        return "The table has another length, or is not sound: lend the 11,336 bytes that the last call left; "
                "all zeros is the empty table.";
     case GIL_REFUSED_CLIENT:
         return "The client is above 63: number the clients from 0 to 63.";
@@ -199,6 +207,8 @@ static inline const char *gil_refusal_text(uint64_t refusal)
                "is written, start the log again.";
     case GIL_REFUSED_SMALLER:
         return "A byte of the piece has a smaller number in the map: note the piece first, then write it again.";
+    case GIL_REFUSED_ITEMS:
+        return "The list has more than 64 items: hand it in as lists of at most 64, one after the other.";
     default:
         return "This is not a refusal number of this library.";
     }
@@ -239,18 +249,23 @@ static inline uint32_t gil_count(const uint8_t *array)
  * and none that comes later is granted in its way. It is granted in the very call in which the last of those
  * that stand in its way goes; the request with the smallest handle never waits. So where clients release each
  * lock that is asked back, and each that was granted canceling, every request is granted in the end.
+ *
+ * A client that knows what it is going to write asks ahead, with a list of requests in one call. These are
+ * marked: their grants end where they asked, and are not widened over what other clients are going to write.
  */
 
 /* What a message answers. If refusal is not 0, the other two are 0. */
 typedef struct {
     uint64_t refusal; /* 0, or a GIL_REFUSED_ number */
-    uint64_t handle;  /* the handle that the call made (request) or named (the others) */
+    uint64_t handle;  /* the handle that the call made (request) or named (the others); 0 of a list */
     uint64_t events;  /* how many events stand in the event buffer */
 } gil_answer;
 
-/* What a client is told: the kind of the event, and then what is shown of the record as the call leaves it.
+/* What a client is told: the kind of the event, and then what is shown of the record as the call leaves it, or
+ * in a list, as the item leaves it: a lock may be granted and asked back in one list.
  *
- * A grant: the client holds the lock from now on, over first to last, which may be more than it asked for.
+ * A grant: the client holds the lock from now on, over first to last. That may be more than a gil_request
+ * asked for; of a list it is what the item asked for.
  * If its state is GIL_STATE_CANCELING, others wait for it already: no revocation and no acknowledge follow,
  * the client does the one operation that it asked for, flushes and releases.
  *
@@ -301,6 +316,32 @@ static inline gil_event gil_event_at(const uint8_t *events, size_t i)
  */
 GIL_CHECKED gil_answer gil_request(uint8_t *table, size_t table_len, uint8_t *events, size_t events_len,
                                    uint64_t client, uint64_t stripe, uint64_t mode, uint64_t first, uint64_t last);
+
+/* An item of a list: a request, and its answer. */
+typedef struct {
+    uint64_t client; /* what is asked stays as it is: who asks, for which stripe, in which mode, for which bytes */
+    uint64_t stripe;
+    uint64_t mode;
+    uint64_t first;
+    uint64_t last;
+    uint64_t refusal; /* the answer, which the list stores: 0, or a GIL_REFUSED_ number */
+    uint64_t handle;  /* the new handle; 0 where the item is refused */
+    uint64_t events;  /* how many of the list's events are this item's */
+} gil_item;
+
+/* Asks for a list of locks ahead of a write, in one call. docs/C.md has an example.
+ *
+ * Takes: the table; an event buffer of GIL_LIST_EVENTS_BYTES, whose content does not matter; the items, with
+ *   what each asks for. Their answers may hold anything.
+ * Answers: handle 0, and how many events stand in the event buffer: those of item 0, then those of item 1, and
+ *   so on. Each item gets the answer that its request, marked, would get alone on the table that the items
+ *   before it left. An item that is refused changes nothing but its own answer, and the list goes on.
+ * Never: widens a grant of these requests, in this call or in a later one; settles the table or sends an event
+ *   where no item is accepted; changes an item where the list is refused.
+ * Refusals, in this order: EVENT_BUFFER, TABLE, ITEMS; in each item CLIENT, STRIPE, MODE, RANGE, HANDLES, RECORDS.
+ */
+GIL_CHECKED gil_answer gil_request_list(uint8_t *table, size_t table_len, uint8_t *events, size_t events_len,
+                                        gil_item *items, size_t count);
 
 /* Replies to a revocation: the lock goes from asked to canceling.
  *
