@@ -1,10 +1,11 @@
-//! The model of document 01, written from the document and from nothing else.
+//! The model of document 01 and of request #101 of document 02, written from them and from nothing else.
 //!
 //! `modes`, `table` and `serve` are the rules for locks, `runs` those for maps and logs.
-//! `locks` and `stripe` are the same on bytes, as the C entries have them.
+//! `locks`, `list` and `stripe` are the same on bytes, as the C entries have them.
 //! `line` is the line program.
 
 pub mod line;
+pub mod list;
 pub mod locks;
 pub mod modes;
 pub mod refusal;

@@ -10,8 +10,8 @@ use super::xdr::{array, hyper, put_array, put_hyper, put_unsigned, unsigned, zer
 const NUMBERS_AT: usize = 4;
 pub const RECORDS_AT: usize = NUMBERS_AT + 4 * STRIPES;
 pub const SHOWN_BYTES: usize = 40;
-/// A record is what is shown of it.
-pub const RECORD_BYTES: usize = SHOWN_BYTES;
+/// A record is what is shown of it, and then its mark.
+pub const RECORD_BYTES: usize = SHOWN_BYTES + 4;
 /// An event is its kind and then what is shown of its record.
 pub const EVENT_BYTES: usize = 4 + SHOWN_BYTES;
 
@@ -107,7 +107,7 @@ pub fn encode(table: &Table) -> Vec<u8> {
     bytes
 }
 
-/// The record in 40 bytes, unless its mode or state has no meaning.
+/// The record in 44 bytes, unless its mode, state or mark has no meaning.
 fn record(bytes: &[u8]) -> Option<Record> {
     Some(Record {
         handle: unsigned(bytes, 0),
@@ -118,10 +118,21 @@ fn record(bytes: &[u8]) -> Option<Record> {
         number: unsigned(bytes, 20),
         first: hyper(bytes, 24),
         last: hyper(bytes, 32),
+        marked: match unsigned(bytes, SHOWN_BYTES) {
+            0 => false,
+            1 => true,
+            _ => return None,
+        },
     })
 }
 
 fn put_record(bytes: &mut [u8], record: &Record) {
+    put_shown(bytes, record);
+    put_unsigned(bytes, SHOWN_BYTES, record.marked.into());
+}
+
+/// The fields of a record that an event has too.
+fn put_shown(bytes: &mut [u8], record: &Record) {
     put_unsigned(bytes, 0, record.handle);
     put_unsigned(bytes, 4, record.client);
     put_unsigned(bytes, 8, record.stripe);
@@ -132,8 +143,8 @@ fn put_record(bytes: &mut [u8], record: &Record) {
     put_hyper(bytes, 32, record.last);
 }
 
-/// An event is its kind, then the fields of its record in their order.
-fn put_event(bytes: &mut [u8], event: &Event) {
+/// An event is its kind, and then what is shown of its record.
+pub fn put_event(bytes: &mut [u8], event: &Event) {
     put_unsigned(bytes, 0, event.kind as u64);
-    put_record(&mut bytes[4..], &event.record);
+    put_shown(&mut bytes[4..], &event.record);
 }

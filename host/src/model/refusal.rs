@@ -1,9 +1,9 @@
 //! The refusal numbers, and when each is given.
 
-/// A refusal number, 1 to 18.
+/// A refusal number, 1 to 19.
 pub type Refusal = u64;
 
-/// The event buffer is under 11,268 bytes.
+/// The event buffer is under 11,268 bytes, for a list under 22,532.
 pub const EVENT_BUFFER: Refusal = 1;
 /// The table is of another length, or not sound.
 pub const TABLE: Refusal = 2;
@@ -39,6 +39,8 @@ pub const RUNS: Refusal = 16;
 pub const ENTRIES: Refusal = 17;
 /// Some byte of the piece has a smaller number in the map.
 pub const SMALLER: Refusal = 18;
+/// The list has more than 64 items.
+pub const ITEMS: Refusal = 19;
 
 /// Refuses with this number when the condition holds.
 /// A row of these in the document's order lets the first hit answer.

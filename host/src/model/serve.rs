@@ -37,26 +37,34 @@ pub struct Accepted {
 /// Refuses the message and changes nothing, or does its change and settles the table.
 pub fn serve(table: &mut Table, message: Message) -> Result<Accepted, Refusal> {
     let handle = change(table, message)?;
+    Ok(settled(table, handle))
+}
+
+/// The same for a request that is marked, as those of a list are.
+pub fn serve_marked(
+    table: &mut Table,
+    client: u64,
+    stripe: u64,
+    mode: u64,
+    first: u64,
+    last: u64,
+) -> Result<Accepted, Refusal> {
+    let handle = add(table, client, stripe, mode, first, last, true)?;
+    Ok(settled(table, handle))
+}
+
+/// Settles the table after the change of a message with this handle.
+fn settled(table: &mut Table, handle: u64) -> Accepted {
     let mut events = settle(table);
     events.extend(revoke(table));
-    Ok(Accepted { handle, events })
+    Accepted { handle, events }
 }
 
 /// The message's own change, and its handle.
 fn change(table: &mut Table, message: Message) -> Result<u64, Refusal> {
     match message {
         Message::Request { client, stripe, mode, first, last } => {
-            refuse(refusal::CLIENT, client >= CLIENTS)?;
-            refuse(refusal::STRIPE, stripe >= STRIPES as u64)?;
-            let mode = Mode::of_code(mode).ok_or(refusal::MODE)?;
-            refuse(refusal::RANGE, !valid_range(first, last))?;
-            refuse(refusal::HANDLES, table.issued == HIGHEST)?;
-            refuse(refusal::RECORDS, table.records.len() == RECORDS)?;
-            table.issued += 1;
-            let (handle, state, number) = (table.issued, State::Waiting, 0);
-            let record = Record { handle, client, stripe, mode, state, number, first, last };
-            table.records.push(record);
-            Ok(handle)
+            add(table, client, stripe, mode, first, last, false)
         }
         Message::Acknowledge { client, handle } => {
             let record = named(table, client, handle)?;
@@ -77,6 +85,29 @@ fn change(table: &mut Table, message: Message) -> Result<u64, Refusal> {
             Ok(handle)
         }
     }
+}
+
+/// Adds a waiting record, and answers its handle.
+fn add(
+    table: &mut Table,
+    client: u64,
+    stripe: u64,
+    mode: u64,
+    first: u64,
+    last: u64,
+    marked: bool,
+) -> Result<u64, Refusal> {
+    refuse(refusal::CLIENT, client >= CLIENTS)?;
+    refuse(refusal::STRIPE, stripe >= STRIPES as u64)?;
+    let mode = Mode::of_code(mode).ok_or(refusal::MODE)?;
+    refuse(refusal::RANGE, !valid_range(first, last))?;
+    refuse(refusal::HANDLES, table.issued == HIGHEST)?;
+    refuse(refusal::RECORDS, table.records.len() == RECORDS)?;
+    table.issued += 1;
+    let (handle, state, number) = (table.issued, State::Waiting, 0);
+    let record = Record { handle, client, stripe, mode, state, number, first, last, marked };
+    table.records.push(record);
+    Ok(handle)
 }
 
 /// The client's record with this handle.
@@ -112,10 +143,13 @@ pub fn successor(request: &Record, other: &Record) -> bool {
     other.waiting() && other.handle > request.handle && request.conflicts_with(other)
 }
 
-/// The request as it is granted: canceling with the asked range, or in state 1 and widened.
+/// The request as it is granted: canceling with the asked range; or in state 1, with the asked range
+/// where it is marked, and widened where it isn't. No lock is marked.
 fn grant(table: &mut Table, request: &Record) -> Record {
     let (state, last) = if table.records.iter().any(|other| successor(request, other)) {
         (State::Canceling, request.last)
+    } else if request.marked {
+        (State::Granted, request.last)
     } else {
         (State::Granted, widened(table, request))
     };
@@ -126,7 +160,7 @@ fn grant(table: &mut Table, request: &Record) -> Record {
     } else {
         0
     };
-    Record { state, number, last, ..*request }
+    Record { state, number, last, marked: false, ..*request }
 }
 
 /// The greatest last byte up to EOF for which the range conflicts with no held lock and no other

@@ -21,6 +21,8 @@ pub struct Record {
     pub number: u64,
     pub first: u64,
     pub last: u64,
+    /// A marked request waits, whose grant ends where it asked.
+    pub marked: bool,
 }
 
 /// The default is the empty table. Records stand in rising handle.
@@ -61,12 +63,14 @@ impl Table {
             && self.sound_pairs()
     }
 
-    /// The handle is issued, client, stripe and range are valid, and the number fits.
+    /// The handle is issued, client, stripe and range are valid, the number fits, and no held lock
+    /// is marked.
     fn sound_record(&self, record: &Record) -> bool {
         (1..=self.issued).contains(&record.handle)
             && record.client < CLIENTS
             && record.stripe < STRIPES as u64
             && valid_range(record.first, record.last)
+            && !(record.held() && record.marked)
             && if record.held() && record.mode.writes() {
                 (1..=self.numbers[record.stripe as usize]).contains(&record.number)
             } else {
