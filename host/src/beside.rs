@@ -5,6 +5,7 @@
 //! made of them too.
 
 use crate::calls::{Calls, MODEL};
+use crate::entries::Item;
 use crate::model::locks::{decode, event_at, Answer};
 use crate::model::serve::Message;
 use crate::model::stripe::Piece;
@@ -15,14 +16,16 @@ use std::panic::{catch_unwind, AssertUnwindSafe};
 pub struct Beside {
     calls: Calls,
     /// How many calls were answered with each number, 0 for accepted.
-    answers: [u64; 19],
+    answers: [u64; 20],
+    /// How many items of accepted lists were answered with each number.
+    items: [u64; 20],
     /// The kind, mode and state of each event that came.
     pub events: BTreeSet<[u32; 3]>,
 }
 
 impl Beside {
     pub fn new(calls: Calls) -> Beside {
-        Beside { calls, answers: [0; 19], events: BTreeSet::new() }
+        Beside { calls, answers: [0; 20], items: [0; 20], events: BTreeSet::new() }
     }
 
     fn compared(&self) -> u64 {
@@ -31,7 +34,8 @@ impl Beside {
 
     /// What another compared is counted here too.
     pub fn join(&mut self, other: Beside) {
-        for (here, there) in self.answers.iter_mut().zip(other.answers) {
+        let here = self.answers.iter_mut().chain(&mut self.items);
+        for (here, there) in here.zip(other.answers.into_iter().chain(other.items)) {
             *here += there;
         }
         self.events.extend(other.events);
@@ -40,25 +44,57 @@ impl Beside {
     /// At least so many calls were compared, and their answers were these numbers and no others.
     pub fn reached(&self, calls: u64, answers: &[usize]) {
         assert!(self.compared() >= calls, "{} calls", self.compared());
-        let answered: Vec<usize> = (0..19).filter(|&answer| self.answers[answer] > 0).collect();
-        assert_eq!(answered, answers);
+        assert_eq!(numbers(&self.answers), answers);
+    }
+
+    /// The items of accepted lists were at least so many, and their answers these numbers and no others.
+    pub fn reached_items(&self, items: u64, answers: &[usize]) {
+        let compared: u64 = self.items.iter().sum();
+        assert!(compared >= items, "{compared} items");
+        assert_eq!(numbers(&self.items), answers);
     }
 
     /// Serves one message. The table of an accepted one stays sound.
     pub fn serve(&mut self, table: &mut [u8], events: &mut [u8], message: Message) -> Answer {
         let (mut lent_table, mut lent_events) = (self.lend(table), self.lend(events));
-        let tested = self.calls.serve(lent_table.bytes(), lent_events.bytes(), message);
+        let tested = self.calls.serve(lent_table.own(), lent_events.own(), message);
         let answer = MODEL.serve(table, events, message);
         let buffers = [("table", lent_table, &*table), ("events", lent_events, &*events)];
         self.agree(format_args!("{message:?}"), tested, answer, &buffers);
+        self.answered(format_args!("{message:?}"), table, events, answer);
+        answer
+    }
+
+    /// Serves a list. The items too are lent between guards.
+    pub fn list(&mut self, table: &mut [u8], events: &mut [u8], items: &mut [Item]) -> Answer {
+        let (mut lent_table, mut lent_events) = (self.lend(table), self.lend(events));
+        let mut lent_items = Lent::new(items, 1);
+        let (t, e, i) = (lent_table.own(), lent_events.own(), lent_items.own());
+        let tested = (self.calls.request_list)(t, e, i);
+        let asked = items.to_vec();
+        let answer = (MODEL.request_list)(table, events, items);
+        let buffers = [("table", lent_table, &*table), ("events", lent_events, &*events)];
+        self.agree(format_args!("list {asked:?}"), tested, answer, &buffers);
+        if let Some(at) = lent_items.differs(items) {
+            let (place, item) = (self.compared(), items.get(at as usize));
+            panic!("call {place}, list {asked:?}: item {at} isn't the model's {item:?}");
+        }
+        self.answered(format_args!("list {asked:?}"), table, events, answer);
+        if answer.refusal == 0 {
+            items.iter().for_each(|item| self.items[item.refusal as usize] += 1);
+        }
+        answer
+    }
+
+    /// Counts the answer and its events. The table of an accepted call stays sound.
+    fn answered(&mut self, call: Arguments, table: &[u8], events: &[u8], answer: Answer) {
         self.answers[answer.refusal as usize] += 1;
         if answer.refusal == 0 {
-            assert!(decode(table).is_some(), "{message:?} leaves a table that isn't sound");
+            assert!(decode(table).is_some(), "{call} leaves a table that isn't sound");
             let integer = |at: usize| u32::from_be_bytes(events[at..at + 4].try_into().unwrap());
             let starts = (0..answer.events as usize).map(event_at);
             self.events.extend(starts.map(|at| [integer(at), integer(at + 16), integer(at + 20)]));
         }
-        answer
     }
 
     pub fn note(
@@ -69,7 +105,7 @@ impl Beside {
         image_length: u64,
     ) -> u64 {
         let (mut lent_map, mut lent_log) = (self.lend(map), self.lend(log));
-        let (m, l) = (lent_map.bytes(), lent_log.bytes());
+        let (m, l) = (lent_map.own(), lent_log.own());
         let tested = (self.calls.note)(m, l, piece, image_length);
         let answer = (MODEL.note)(map, log, piece, image_length);
         self.agree(
@@ -85,7 +121,7 @@ impl Beside {
     pub fn write(&mut self, map: &[u8], image: &mut [u8], piece: Piece<&[u8]>) -> u64 {
         let (mut lent_map, mut lent_image) = (self.lend(map), self.lend(image));
         let mut lent_bytes = self.lend(piece.bytes);
-        let (m, i, bytes) = (lent_map.bytes(), lent_image.bytes(), &*lent_bytes.bytes());
+        let (m, i, bytes) = (lent_map.own(), lent_image.own(), &*lent_bytes.own());
         let tested = (self.calls.write)(m, i, Piece { bytes, ..piece });
         let answer = (MODEL.write)(map, image, piece);
         let (outline, image_length) = (piece.outline(), image.len());
@@ -105,7 +141,7 @@ impl Beside {
 
     pub fn restart(&mut self, map: &mut [u8], log: &[u8]) -> u64 {
         let (mut lent_map, mut lent_log) = (self.lend(map), self.lend(log));
-        let tested = (self.calls.restart)(lent_map.bytes(), lent_log.bytes());
+        let tested = (self.calls.restart)(lent_map.own(), lent_log.own());
         let answer = (MODEL.restart)(map, log);
         let buffers = [("map", lent_map, &*map), ("log", lent_log, log)];
         self.agree(format_args!("restart"), tested, answer, &buffers);
@@ -114,7 +150,7 @@ impl Beside {
     }
 
     /// A copy to lend. From call to call it begins at another address modulo 16.
-    fn lend(&self, buffer: &[u8]) -> Lent {
+    fn lend(&self, buffer: &[u8]) -> Lent<u8> {
         Lent::new(buffer, 1 + self.compared() as usize % 16)
     }
 
@@ -124,7 +160,7 @@ impl Beside {
         call: Arguments,
         tested: A,
         answer: A,
-        buffers: &[(&str, Lent, &[u8])],
+        buffers: &[(&str, Lent<u8>, &[u8])],
     ) {
         let place = self.compared();
         assert!(tested == answer, "call {place}, {call}: {tested:?}, by the model {answer:?}");
@@ -136,6 +172,11 @@ impl Beside {
     }
 }
 
+/// The numbers that were answered at all.
+fn numbers(answers: &[u64; 20]) -> Vec<usize> {
+    (0..20).filter(|&answer| answers[answer] > 0).collect()
+}
+
 /// Whether a scene finds these calls out: it ends at a call that isn't the model's.
 pub fn finds_out(calls: Calls, scene: impl FnOnce(&mut Beside)) -> bool {
     let mut beside = Beside::new(calls);
@@ -144,29 +185,51 @@ pub fn finds_out(calls: Calls, scene: impl FnOnce(&mut Beside)) -> bool {
 
 /// A copy of a buffer between guards, lent to the calls under test in the buffer's place.
 /// No call touches a byte before or after what it is lent.
-struct Lent {
-    guarded: Vec<u8>,
+struct Lent<T> {
+    guarded: Vec<T>,
     start: usize,
 }
 
-const GUARD: [u8; 16] = [0xA5; 16];
+/// What stands before and after a buffer of bytes, or of items.
+trait Guarded: Copy + PartialEq {
+    const GUARD: Self;
+}
 
-impl Lent {
-    fn new(buffer: &[u8], start: usize) -> Lent {
-        Lent { guarded: [&GUARD[..start], buffer, &GUARD[..]].concat(), start }
+impl Guarded for u8 {
+    const GUARD: u8 = 0xA5;
+}
+
+impl Guarded for Item {
+    const GUARD: Item = Item {
+        client: 1,
+        stripe: 2,
+        mode: 3,
+        first: 4,
+        last: 5,
+        refusal: u64::MAX,
+        handle: u64::MAX,
+        events: u64::MAX,
+    };
+}
+
+impl<T: Guarded> Lent<T> {
+    fn new(buffer: &[T], start: usize) -> Lent<T> {
+        let guards = [T::GUARD; 16];
+        Lent { guarded: [&guards[..start], buffer, &guards[..]].concat(), start }
     }
 
-    fn bytes(&mut self) -> &mut [u8] {
-        let end = self.guarded.len() - GUARD.len();
+    fn own(&mut self) -> &mut [T] {
+        let end = self.guarded.len() - 16;
         &mut self.guarded[self.start..end]
     }
 
-    /// The first byte that differs from the buffer as the model left it; before byte 0 and after
+    /// The first place that differs from the buffer as the model left it; before place 0 and after
     /// the last one stand the guards.
-    fn differs(&self, buffer: &[u8]) -> Option<isize> {
+    fn differs(&self, buffer: &[T]) -> Option<isize> {
         let (before, rest) = self.guarded.split_at(self.start);
         let (lent, after) = rest.split_at(buffer.len());
-        if before == &GUARD[..self.start] && lent == buffer && after == GUARD {
+        let guard = |other: &T| *other == T::GUARD;
+        if before.iter().all(guard) && lent == buffer && after.iter().all(guard) {
             return None;
         }
         let expected = Lent::new(buffer, self.start).guarded;

@@ -1,6 +1,7 @@
 //! The calls as one value, so that a test or a measurement is written once for all who have
 //! them: the model, the proved library, and the shipped Rust.
 
+use crate::entries::Item;
 use crate::model::locks::Answer;
 use crate::model::serve::Message;
 use crate::model::stripe::Piece;
@@ -9,6 +10,8 @@ use crate::{entries, model, shipped};
 pub type Request = fn(&mut [u8], &mut [u8], u64, u64, u64, u64, u64) -> Answer;
 /// Acknowledge, downgrade and release, which name a handle.
 pub type Naming = fn(&mut [u8], &mut [u8], u64, u64) -> Answer;
+/// The items are those of the C entry, so that no call is measured with a copy of them.
+pub type RequestList = fn(&mut [u8], &mut [u8], &mut [Item]) -> Answer;
 pub type Note = fn(&mut [u8], &mut [u8], Piece<u64>, u64) -> u64;
 pub type Write = fn(&[u8], &mut [u8], Piece<&[u8]>) -> u64;
 pub type Restart = fn(&mut [u8], &[u8]) -> u64;
@@ -19,6 +22,7 @@ pub struct Calls {
     pub acknowledge: Naming,
     pub downgrade: Naming,
     pub release: Naming,
+    pub request_list: RequestList,
     pub note: Note,
     pub write: Write,
     pub restart: Restart,
@@ -47,10 +51,27 @@ pub const MODEL: Calls = Calls {
     acknowledge: model::locks::acknowledge,
     downgrade: model::locks::downgrade,
     release: model::locks::release,
+    request_list: model_list,
     note: model::stripe::note,
     write: model::stripe::write,
     restart: model::stripe::restart,
 };
+
+/// The model has items of its own.
+fn model_list(table: &mut [u8], events: &mut [u8], items: &mut [Item]) -> Answer {
+    let mut own: Vec<model::list::Item> = items
+        .iter()
+        .map(|&Item { client, stripe, mode, first, last, refusal, handle, events }| {
+            model::list::Item { client, stripe, mode, first, last, refusal, handle, events }
+        })
+        .collect();
+    let answer = model::list::request_list(table, events, &mut own);
+    for (item, own) in items.iter_mut().zip(own) {
+        let model::list::Item { client, stripe, mode, first, last, refusal, handle, events } = own;
+        *item = Item { client, stripe, mode, first, last, refusal, handle, events };
+    }
+    answer
+}
 
 pub const LIBRARY: Calls = Calls {
     request: |table, events, client, stripe, mode, first, last| {
@@ -65,6 +86,7 @@ pub const LIBRARY: Calls = Calls {
     release: |table, events, client, handle| {
         answer(entries::release(table, events, client, handle))
     },
+    request_list: |table, events, items| answer(entries::request_list(table, events, items)),
     note: |map, log, Piece { first, bytes, number }, image_length| {
         entries::note(map, log, first, bytes, number, image_length)
     },
@@ -83,6 +105,7 @@ pub const SHIPPED: Calls = Calls {
     acknowledge: shipped::locks::acknowledge,
     downgrade: shipped::locks::downgrade,
     release: shipped::locks::release,
+    request_list: shipped::locks::request_list,
     note: shipped::stripe::note,
     write: shipped::stripe::write,
     restart: shipped::stripe::restart,

@@ -4,11 +4,18 @@
 //! length 0. A slice is never null, and where two slices of one call overlap both are only read.
 //!
 //! ```
-//! use gilboreth_host::entries::{note, request, Answer};
+//! use gilboreth_host::entries::{note, request, request_list, Answer, Item};
 //!
-//! let (mut table, mut events) = ([0; 10_312], [0; 11_268]);
+//! let (mut table, mut events) = ([0; 11_336], [0; 11_268]);
 //! let answer = request(&mut table, &mut events, 0, 0, 2, 0, 20);
 //! assert_eq!(answer, Answer { refusal: 0, handle: 1, events: 1 });
+//!
+//! // Client 1 asks for two places of stripe 1 and for one of stripe 16, which there isn't.
+//! let ask = |stripe, first, last| Item { client: 1, stripe, mode: 2, first, last, ..Item::default() };
+//! let mut items = [ask(1, 0, 9), ask(16, 10, 19), ask(1, 20, 29)];
+//! let answer = request_list(&mut table, &mut [0; 22_532], &mut items);
+//! assert_eq!(answer, Answer { refusal: 0, handle: 0, events: 2 });
+//! assert_eq!(items.map(|item| (item.refusal, item.handle)), [(0, 2), (4, 0), (0, 3)]);
 //!
 //! let (mut map, mut log) = ([0; 20_484], [0; 40_964]);
 //! assert_eq!(note(&mut map, &mut log, 4, 0, 1, 10), 14);
@@ -24,43 +31,57 @@ pub struct Answer {
     pub events: u64,
 }
 
-/// A message's entry: the table, the event buffer, and its numbers. The library that is compiled for
-/// Arm takes the answer's address before them, which on x86-64 is how a structure is returned.
+/// An item of a list as C has it: what is asked, and then the answer that the list stores in it.
+#[repr(C)]
+#[derive(Clone, Copy, Debug, Default, PartialEq, Eq)]
+pub struct Item {
+    pub client: u64,
+    pub stripe: u64,
+    pub mode: u64,
+    pub first: u64,
+    pub last: u64,
+    pub refusal: u64,
+    pub handle: u64,
+    pub events: u64,
+}
+
+/// An entry that returns an answer. The library that is compiled for Arm takes the answer's address
+/// before the rest, which on x86-64 is how a structure is returned.
+macro_rules! answering {
+    ($entry:ident($($word:ident: $type:ty),+)) => {
+        #[cfg(not(target_arch = "aarch64"))]
+        extern "C" {
+            fn $entry($($word: $type),+) -> Answer;
+        }
+        #[cfg(target_arch = "aarch64")]
+        unsafe fn $entry($($word: $type),+) -> Answer {
+            extern "C" {
+                fn $entry(answer: *mut Answer, $($word: $type),+);
+            }
+            let mut answer = Answer { refusal: 0, handle: 0, events: 0 };
+            $entry(&mut answer, $($word),+);
+            answer
+        }
+    };
+}
+
+/// A message's entry: the table, the event buffer, and its numbers.
 macro_rules! message {
     ($(#[$doc:meta])* $name:ident is $entry:ident($($number:ident),+)) => {
-        extern "C" {
-            #[cfg(not(target_arch = "aarch64"))]
-            fn $entry(
+        answering! {
+            $entry(
                 table: *mut u8,
                 table_len: usize,
                 events: *mut u8,
                 events_len: usize,
                 $($number: u64),+
-            ) -> Answer;
-            #[cfg(target_arch = "aarch64")]
-            fn $entry(
-                answer: *mut Answer,
-                table: *mut u8,
-                table_len: usize,
-                events: *mut u8,
-                events_len: usize,
-                $($number: u64),+
-            );
+            )
         }
 
         $(#[$doc])*
         pub fn $name(table: &mut [u8], events: &mut [u8], $($number: u64),+) -> Answer {
             let (t, e) = (table.as_mut_ptr(), events.as_mut_ptr());
-            #[cfg(not(target_arch = "aarch64"))]
-            unsafe {
-                $entry(t, table.len(), e, events.len(), $($number),+)
-            }
-            #[cfg(target_arch = "aarch64")]
-            {
-                let mut answer = Answer { refusal: 0, handle: 0, events: 0 };
-                unsafe { $entry(&mut answer, t, table.len(), e, events.len(), $($number),+) }
-                answer
-            }
+            unsafe { $entry(t, table.len(), e, events.len(), $($number),+) }
         }
     };
 }
@@ -80,6 +101,24 @@ message! {
 message! {
     /// Refused with 1, 2, 3, 9, 10.
     release is gil_release(client, handle)
+}
+
+answering! {
+    gil_request_list(
+        table: *mut u8,
+        table_len: usize,
+        events: *mut u8,
+        events_len: usize,
+        items: *mut Item,
+        count: usize
+    )
+}
+
+/// Refused with 1 (under 22,532 bytes), 2, 19. Each item's answer, which may be 3 to 8, is stored in
+/// the item.
+pub fn request_list(table: &mut [u8], events: &mut [u8], items: &mut [Item]) -> Answer {
+    let (t, e, i) = (table.as_mut_ptr(), events.as_mut_ptr(), items.as_mut_ptr());
+    unsafe { gil_request_list(t, table.len(), e, events.len(), i, items.len()) }
 }
 
 extern "C" {

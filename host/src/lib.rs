@@ -51,10 +51,10 @@
 //!
 //! The rest is here to judge the library, and no program needs it:
 //!
-//! - [`model`] is document 01 in Rust, written from the document alone. It shares no code with what
-//!   stands above, so that an error would have to be made twice to pass.
+//! - [`model`] is documents 01 and 02, as far as 02 is built, in Rust, written from them alone. It
+//!   shares no code with what stands above, so that an error would have to be made twice to pass.
 //! - [`shipped`] is the same calls as an engineer would ship them in plain Rust, the yardstick of the
-//!   benchmark. It takes its sizes and refusal numbers from the model.
+//!   benchmark. It takes its sizes and refusal numbers from the model, and a list's item from [`entries`].
 //! - [`calls`], [`beside`], [`logs`] and [`random`] are what tests and benchmark share: the calls as
 //!   one value, a call beside the model's, logs of every kind, and seeds.
 

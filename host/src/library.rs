@@ -1,6 +1,6 @@
 //! The library for Rust programs: the entries with types over their bytes and numbers.
 //!
-//! `table` serves the four messages, `map` notes, writes and restarts; `log`, `records`, `runs` and
+//! `table` serves the four messages and lists of requests, `map` notes, writes and restarts; `log`, `records`, `runs` and
 //! `events` read what the entries leave. Nothing here decides anything: each call is one call of
 //! the proved library, and nothing here is taken from the model.
 
@@ -8,6 +8,7 @@
 mod buffer;
 mod codes;
 mod events;
+mod item;
 mod log;
 mod map;
 mod piece;
@@ -17,7 +18,8 @@ mod runs;
 mod table;
 
 pub use codes::{Handle, Mode, Number, State};
-pub use events::{Answer, Event, EventBuffer, Events, Kind};
+pub use events::{Answer, Event, EventBuffer, Events, Kind, ListEventBuffer};
+pub use item::Item;
 pub use log::Log;
 pub use map::Map;
 pub use piece::Piece;

@@ -11,17 +11,29 @@ use std::slice::ChunksExact;
 
 /// An event is its kind, then its record.
 const EVENT: usize = 4 + Record::SHOWN;
-/// At most 256 events arise in a call.
+/// At most 256 events arise in a call, and at most 512 in a list.
 const EVENTS: usize = 256;
+const LIST_EVENTS: usize = 512;
 
 buffer! {
     /// Room for the events of one message, 11,268 bytes. It is used again for the next one.
     EventBuffer, 4 + EVENT * EVENTS
 }
 
+buffer! {
+    /// Room for the events of a list, 22,532 bytes. It is used again for the next one.
+    ListEventBuffer, 4 + EVENT * LIST_EVENTS
+}
+
 impl Debug for EventBuffer {
     fn fmt(&self, f: &mut Formatter) -> Formatted {
         f.debug_struct("EventBuffer").finish_non_exhaustive()
+    }
+}
+
+impl Debug for ListEventBuffer {
+    fn fmt(&self, f: &mut Formatter) -> Formatted {
+        f.debug_struct("ListEventBuffer").finish_non_exhaustive()
     }
 }
 
@@ -36,12 +48,12 @@ impl Answer<'_> {
     /// What an entry's answer says, with the buffer that it wrote to.
     pub(super) fn of(answer: entries::Answer, buffer: &EventBuffer) -> Result<Answer<'_>, Refusal> {
         accepted(answer.refusal)?;
-        let events = Events(array(buffer.bytes(), EVENT));
-        Ok(Answer { handle: Handle(answer.handle), events })
+        Ok(Answer { handle: Handle(answer.handle), events: Events::of(buffer.bytes()) })
     }
 }
 
-/// The events of an accepted message: grants in rising handle, then revocations in rising handle.
+/// The events of an accepted message: grants in rising handle, then revocations in rising handle. Those
+/// of a list are the events of its first item, then those of its second, and so on.
 ///
 /// ```
 /// use gilboreth_host::{EventBuffer, Handle, Kind, Mode, State, Table};
@@ -62,6 +74,13 @@ impl Answer<'_> {
 /// ```
 #[derive(Clone, Debug)]
 pub struct Events<'a>(ChunksExact<'a, u8>);
+
+impl Events<'_> {
+    /// What an entry wrote to an event buffer.
+    pub(super) fn of(buffer: &[u8]) -> Events<'_> {
+        Events(array(buffer, EVENT))
+    }
+}
 
 impl Iterator for Events<'_> {
     type Item = Event;

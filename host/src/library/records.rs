@@ -20,9 +20,10 @@ pub struct Record {
 impl Record {
     /// What is shown of a record, in an event too.
     pub(super) const SHOWN: usize = 40;
-    pub(super) const BYTES: usize = Record::SHOWN;
+    /// After it stands the mark, 1 while a marked request waits and else 0.
+    pub(super) const BYTES: usize = Record::SHOWN + 4;
 
-    /// The record in 40 bytes, unless its mode or state has no meaning.
+    /// The record whose first 40 bytes these are, unless its mode or state has no meaning.
     pub(super) fn read(bytes: &[u8]) -> Option<Record> {
         Some(Record {
             handle: Handle(unsigned(bytes, 0)),

@@ -5,8 +5,9 @@ use std::fmt::{Display, Formatter, Result as Formatted};
 
 /// Why a call was refused. A refused call changes nothing in any buffer.
 ///
-/// A request is judged by 1 to 8 in this order, the other messages by 1, 2, 3, 9, 10, 11, a note by
-/// 12 to 17, a write by 12, 14, 15, 18, a restart by 12 (length only), 13, 16. The first hit answers.
+/// A request is judged by 1 to 8 in this order, the other messages by 1, 2, 3, 9, 10, 11, a list by 1,
+/// 2, 19 and each of its items by 3 to 8, a note by 12 to 17, a write by 12, 14, 15, 18, a restart by 12
+/// (length only), 13, 16. The first hit answers.
 ///
 /// ```
 /// use gilboreth_host::{EventBuffer, Mode, Refusal, Table};
@@ -19,7 +20,7 @@ use std::fmt::{Display, Formatter, Result as Formatted};
 /// ```
 #[derive(Clone, Copy, Debug, PartialEq, Eq, Hash)]
 pub enum Refusal {
-    /// The event buffer is under 11,268 bytes.
+    /// The event buffer is under 11,268 bytes, for a list under 22,532.
     EventBuffer = 1,
     /// The table is of another length, or not sound.
     Table = 2,
@@ -55,11 +56,13 @@ pub enum Refusal {
     Entries = 17,
     /// Some byte of the piece has a smaller number in the map.
     Smaller = 18,
+    /// The list has more than 64 items.
+    Items = 19,
 }
 
 impl Refusal {
     /// All of them, in the order of their numbers.
-    pub const ALL: [Refusal; 18] = [
+    pub const ALL: [Refusal; 19] = [
         Refusal::EventBuffer,
         Refusal::Table,
         Refusal::Client,
@@ -78,14 +81,15 @@ impl Refusal {
         Refusal::Runs,
         Refusal::Entries,
         Refusal::Smaller,
+        Refusal::Items,
     ];
 
-    /// Its number, 1 to 18.
+    /// Its number, 1 to 19.
     pub fn number(self) -> u64 {
         self as u64
     }
 
-    /// The refusal with this number, 1 to 18.
+    /// The refusal with this number, 1 to 19.
     pub fn of_number(number: u64) -> Option<Refusal> {
         Refusal::ALL.into_iter().find(|refusal| refusal.number() == number)
     }
@@ -111,6 +115,6 @@ impl Error for Refusal {}
 pub fn accepted(number: u64) -> Result<(), Refusal> {
     match number {
         0 => Ok(()),
-        _ => Err(Refusal::of_number(number).expect("an entry answers 0 to 18")),
+        _ => Err(Refusal::of_number(number).expect("an entry answers 0 to 19")),
     }
 }

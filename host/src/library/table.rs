@@ -1,10 +1,11 @@
-//! The lock table of one server, and the four messages.
+//! The lock table of one server, the four messages, and lists of requests.
 
 use super::buffer::{array, unsigned};
 use super::codes::{Handle, Number};
-use super::events::{Answer, EventBuffer};
+use super::events::{Answer, EventBuffer, Events, ListEventBuffer};
+use super::item::Item;
 use super::records::{Record, Records};
-use super::refusal::Refusal;
+use super::refusal::{accepted, Refusal};
 use crate::entries;
 use std::fmt::{Debug, Formatter, Result as Formatted};
 
@@ -14,7 +15,7 @@ const RECORDS: usize = 256;
 const RECORDS_AT: usize = 4 + 4 * STRIPES;
 
 buffer! {
-    /// The lock table of one server, 10,312 bytes. All zeros is the empty table.
+    /// The lock table of one server, 11,336 bytes. All zeros is the empty table.
     ///
     /// Each of the four messages is answered at once: with its handle and the grants and revocations
     /// that follow, or with a refusal that changes nothing. Who waits is granted in the call in
@@ -64,6 +65,44 @@ impl Table {
         let (table, buffer, mode) = (self.bytes_mut(), events.bytes_mut(), mode.into());
         let answer = entries::request(table, buffer, client, stripe, mode, first, last);
         Answer::of(answer, events)
+    }
+
+    /// Serves a list of at most 64 requests, each on the table that those before it left. Each answer is
+    /// stored in its own item; a refused item changes nothing else, and the list goes on.
+    ///
+    /// These requests are marked: their grants end where they asked. So ranks that write blocks in turn
+    /// ask for them ahead, and none stands in another's way:
+    ///
+    /// ```
+    /// use gilboreth_host::{Item, Kind, ListEventBuffer, Mode, Refusal, Table};
+    ///
+    /// let (mut table, mut events) = (Table::new(), ListEventBuffer::new());
+    /// for rank in 0..4 {
+    ///     // Rank 0 has the blocks 0, 4, 8, .., rank 1 the blocks 1, 5, 9, ..
+    ///     let blocks = (rank..32).step_by(4);
+    ///     let ask = |block| Item::new(rank, 0, Mode::NBW, 1_000 * block, 1_000 * block + 999);
+    ///     let mut items: Vec<Item> = blocks.map(ask).collect();
+    ///     let granted = table.request_list(&mut events, &mut items)?;
+    ///     for (item, event) in items.iter().zip(granted) {
+    ///         assert_eq!((item.answered(), event.kind), (Ok(event.record.handle), Kind::Grant));
+    ///         assert_eq!((event.record.first, event.record.last), (item.first, item.last));
+    ///     }
+    /// }
+    ///
+    /// let mut items = [Item::new(0, 16, Mode::NBW, 0, 9), Item::new(0, 1, Mode::NBW, 0, 9)];
+    /// table.request_list(&mut events, &mut items)?;
+    /// assert_eq!(items[0].answered(), Err(Refusal::Stripe));
+    /// assert!(items[1].answered().is_ok());
+    /// # Ok::<(), Refusal>(())
+    /// ```
+    pub fn request_list<'e>(
+        &mut self,
+        events: &'e mut ListEventBuffer,
+        items: &mut [Item],
+    ) -> Result<Events<'e>, Refusal> {
+        let answer = entries::request_list(&mut self.0, events.bytes_mut(), items);
+        accepted(answer.refusal)?;
+        Ok(Events::of(events.bytes()))
     }
 
     /// The reply to a revocation: the holder is going to flush and release.

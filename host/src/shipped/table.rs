@@ -1,7 +1,9 @@
 //! The lock table's bytes, with its records read once: when it is sound, and how it changes.
 
 use super::numbers::{put_u32, put_u64, u32_at, u64_at, zero};
-use crate::model::locks::{record_at, RECORDS_AT as COUNT_AT, RECORD_BYTES, TABLE_BYTES};
+use crate::model::locks::{
+    record_at, RECORDS_AT as COUNT_AT, RECORD_BYTES, SHOWN_BYTES, TABLE_BYTES,
+};
 use crate::model::table::{CLIENTS, RECORDS, STRIPES};
 use crate::model::valid_range;
 
@@ -25,6 +27,7 @@ pub struct Record {
     pub number: u32,
     pub first: u64,
     pub last: u64,
+    pub mark: u32,
 }
 
 impl Record {
@@ -38,10 +41,17 @@ impl Record {
             number: u32_at(bytes, 20),
             first: u64_at(bytes, 24),
             last: u64_at(bytes, 32),
+            mark: u32_at(bytes, SHOWN_BYTES),
         }
     }
 
-    pub fn put(&self, bytes: &mut [u8]) {
+    fn put(&self, bytes: &mut [u8]) {
+        self.show(bytes);
+        put_u32(bytes, SHOWN_BYTES, self.mark);
+    }
+
+    /// What an event has of it.
+    pub fn show(&self, bytes: &mut [u8]) {
         put_u32(bytes, 0, self.handle);
         put_u32(bytes, 4, self.client);
         put_u32(bytes, 8, self.stripe);
@@ -157,6 +167,7 @@ impl Table<'_> {
                 || !(PR..=PW).contains(&record.mode)
                 || record.state > CANCELING
                 || !valid_range(record.first, record.last)
+                || record.mark > u32::from(record.waiting())
             {
                 return false;
             }
