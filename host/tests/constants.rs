@@ -1,8 +1,10 @@
 //! The numbers of document 01 as the proved code has them, beside those of the C header, the model and
 //! the library. They are read from the `const` lines of crates/ and the `#define` lines of the header.
 
-use gilboreth_host::model::{self, locks, modes, runs, serve, stripe, table};
-use gilboreth_host::{EventBuffer, Kind, Log, Map, Mode, Refusal, State, Table, EOF};
+use gilboreth_host::model::{self, list, locks, modes, runs, serve, stripe, table};
+use gilboreth_host::{
+    EventBuffer, Kind, ListEventBuffer, Log, Map, Mode, Refusal, State, Table, EOF,
+};
 use std::collections::BTreeMap;
 use std::fs::{read_dir, read_to_string};
 use std::path::{Path, PathBuf};
@@ -151,7 +153,7 @@ fn header() -> Constants {
 /// the library has it, there.
 type Row = (&'static [&'static str], &'static str, u64, Option<u64>);
 
-const BYTES: [Row; 10] = [
+const BYTES: [Row; 13] = [
     (&["TABLE_BYTES"], "TABLE_BYTES", locks::TABLE_BYTES as u64, Some(Table::BYTES as u64)),
     (
         &["EVENTS_BYTES"],
@@ -159,6 +161,14 @@ const BYTES: [Row; 10] = [
         locks::EVENTS_BYTES as u64,
         Some(EventBuffer::BYTES as u64),
     ),
+    (
+        &["LIST_EVENTS_BYTES"],
+        "LIST_EVENTS_BYTES",
+        list::LIST_EVENTS_BYTES as u64,
+        Some(ListEventBuffer::BYTES as u64),
+    ),
+    (&["LIST_EVENTS"], "MAX_LIST_EVENTS", list::LIST_EVENTS as u64, None),
+    (&["MAX_ITEMS"], "MAX_ITEMS", list::ITEMS as u64, None),
     (&["MAP_BYTES", "MAP_SIZE"], "MAP_BYTES", stripe::MAP_BYTES as u64, Some(Map::BYTES as u64)),
     (&["LOG_BYTES", "LOG_SIZE"], "LOG_BYTES", stripe::LOG_BYTES as u64, Some(Log::BYTES as u64)),
     (&["SHOWN_BYTES"], "BYTES_SHOWN", locks::SHOWN_BYTES as u64, None),
@@ -239,7 +249,7 @@ fn refusals() {
         found += 1;
     }
     assert_eq!(found, Refusal::ALL.len());
-    use model::refusal::{CLIENT, EVENT_BUFFER, LOG, MAP, PIECE, RUNS, SMALLER, TABLE};
+    use model::refusal::{CLIENT, EVENT_BUFFER, ITEMS, LOG, MAP, PIECE, RUNS, SMALLER, TABLE};
     for (refusal, number) in [
         (Refusal::EventBuffer, EVENT_BUFFER),
         (Refusal::Table, TABLE),
@@ -249,6 +259,7 @@ fn refusals() {
         (Refusal::Piece, PIECE),
         (Refusal::Runs, RUNS),
         (Refusal::Smaller, SMALLER),
+        (Refusal::Items, ITEMS),
     ] {
         assert_eq!(refusal.number(), number);
     }

@@ -13,7 +13,8 @@ use gilboreth_host::{EventBuffer, Log, Map, Table};
 use runs::runs;
 use transcript::{play, play_on};
 
-/// A table written out by hand: handles issued, the last number of stripe 0, and the records.
+/// A table written out by hand: handles issued, the last number of stripe 0, and the records, each
+/// with a mark of 0.
 fn table(issued: u32, number: u32, records: &[([u32; 6], u64, u64)]) -> Vec<u8> {
     let mut head = [0; 18];
     (head[0], head[1], head[17]) = (issued, number, records.len() as u32);
@@ -23,16 +24,17 @@ fn table(issued: u32, number: u32, records: &[([u32; 6], u64, u64)]) -> Vec<u8> 
         bytes.extend(integers(fields));
         bytes.extend(first.to_be_bytes());
         bytes.extend(last.to_be_bytes());
+        bytes.extend([0; 4]);
     }
-    bytes.resize(10_312, 0);
+    bytes.resize(11_336, 0);
     bytes
 }
 
 #[test]
 fn sizes() {
-    assert_eq!((TABLE_BYTES, EVENTS_BYTES), (10_312, 11_268));
+    assert_eq!((TABLE_BYTES, EVENTS_BYTES), (11_336, 11_268));
     assert_eq!((MAP_BYTES, LOG_BYTES), (20_484, 40_964));
-    assert_eq!((Table::BYTES, EventBuffer::BYTES), (10_312, 11_268));
+    assert_eq!((Table::BYTES, EventBuffer::BYTES), (11_336, 11_268));
     assert_eq!((Map::BYTES, Log::BYTES), (20_484, 40_964));
 }
 

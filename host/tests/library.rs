@@ -2,20 +2,22 @@
 
 mod messages;
 
+use gilboreth_host::model::list::LIST_EVENTS_BYTES;
 use gilboreth_host::model::locks::{decode, record_at, EVENTS_BYTES, TABLE_BYTES};
-use gilboreth_host::model::serve::{serve, Message};
+use gilboreth_host::model::serve::{serve, serve_marked, Message};
 use gilboreth_host::model::stripe::{decode_log, decode_map, LOG_BYTES, MAP_BYTES};
 use gilboreth_host::model::{self, modes, runs, stripe, table};
 use gilboreth_host::random::{for_seeds, Random};
 use gilboreth_host::{
-    Answer, Event, EventBuffer, Handle, Kind, Log, Map, Mode, Number, Piece, Record, Refusal, Run,
-    State, Table, EOF,
+    Answer, Event, EventBuffer, Handle, Item, Kind, ListEventBuffer, Log, Map, Mode, Number, Piece,
+    Record, Refusal, Run, State, Table, EOF,
 };
-use messages::message;
+use messages::{crowded, message};
 
 #[test]
 fn sizes() {
-    assert_eq!((Table::BYTES, EventBuffer::BYTES), (10_312, 11_268));
+    assert_eq!((Table::BYTES, EventBuffer::BYTES), (11_336, 11_268));
+    assert_eq!((ListEventBuffer::BYTES, LIST_EVENTS_BYTES), (22_532, 22_532));
     assert_eq!((Map::BYTES, Log::BYTES), (20_484, 40_964));
     assert_eq!((TABLE_BYTES, EVENTS_BYTES), (Table::BYTES, EventBuffer::BYTES));
     assert_eq!((MAP_BYTES, LOG_BYTES), (Map::BYTES, Log::BYTES));
@@ -31,7 +33,7 @@ fn refusals() {
         assert!(text.contains(": ") && text.ends_with('.') && !text.contains("  "), "{text}");
         assert_eq!(refusal.to_string(), format!("refusal {number}. {text}"));
     }
-    assert_eq!((Refusal::of_number(0), Refusal::of_number(19)), (None, None));
+    assert_eq!((Refusal::of_number(0), Refusal::of_number(20)), (None, None));
 }
 
 fn record(r: &table::Record) -> Record {
@@ -55,6 +57,14 @@ fn record(r: &table::Record) -> Record {
         first: r.first,
         last: r.last,
     }
+}
+
+fn event(e: &model::serve::Event) -> Event {
+    let kind = match e.kind {
+        model::serve::Kind::Grant => Kind::Grant,
+        model::serve::Kind::Revocation => Kind::Revocation,
+    };
+    Event { kind, record: record(&e.record) }
 }
 
 fn send<'e>(
@@ -89,14 +99,6 @@ fn sessions() {
                 (Ok(answer), Ok(accepted)) => {
                     assert_eq!(answer.handle, Handle(accepted.handle));
                     assert_eq!(answer.events.len(), accepted.events.len());
-                    let kind = |kind| match kind {
-                        model::serve::Kind::Grant => Kind::Grant,
-                        model::serve::Kind::Revocation => Kind::Revocation,
-                    };
-                    let event = |e: &model::serve::Event| Event {
-                        kind: kind(e.kind),
-                        record: record(&e.record),
-                    };
                     assert!(answer.events.eq(accepted.events.iter().map(event)));
                 }
                 (Err(refusal), Err(number)) => {
@@ -109,6 +111,57 @@ fn sessions() {
             assert_eq!(table.issued(), model.issued);
             let numbers: [u64; 16] = std::array::from_fn(|stripe| table.last_number(stripe).0);
             assert_eq!(numbers, model.numbers);
+        }
+    });
+}
+
+/// Lists of any length among releases: answers, events and records are the model's.
+#[test]
+fn lists() {
+    for_seeds(0..20, |random| {
+        let (mut table, mut events) = (Table::new(), EventBuffer::new());
+        let mut list_events = ListEventBuffer::new();
+        let mut model = table::Table::default();
+        for _ in 0..40 {
+            let count = random.pick(&[0, 1, 3, 8, 64, 65]);
+            let ask = |_| {
+                let [client, stripe, mode, first, last] = crowded(random);
+                let mode = if random.once_in(9) { 5 } else { mode };
+                Item::new(client, stripe, mode, first, last)
+            };
+            let mut items: Vec<Item> = (0..count).map(ask).collect();
+            let (old_table, old_items) = (table.clone(), items.clone());
+            let listed = table.request_list(&mut list_events, &mut items);
+            if count > 64 {
+                assert_eq!(listed.err(), Some(Refusal::Items));
+                assert!(table == old_table && items == old_items);
+                continue;
+            }
+            let mut told = listed.unwrap();
+            for (item, asked) in items.iter().zip(old_items) {
+                let Item { client, stripe, mode, first, last, .. } = asked;
+                match serve_marked(&mut model, client, stripe, mode, first, last) {
+                    Ok(accepted) => {
+                        assert_eq!(item.answered(), Ok(Handle(accepted.handle)));
+                        assert_eq!(item.events, accepted.events.len() as u64);
+                        let own: Vec<Event> = told.by_ref().take(item.events as usize).collect();
+                        assert!(own.iter().copied().eq(accepted.events.iter().map(event)));
+                    }
+                    Err(number) => {
+                        assert_eq!(item.answered().unwrap_err().number(), number);
+                        assert_eq!((item.handle, item.events), (0, 0));
+                    }
+                }
+                assert_eq!(Item { refusal: 0, handle: 0, events: 0, ..*item }, asked);
+            }
+            assert_eq!(told.len(), 0);
+            while model.records.len() > 100 {
+                let record = random.pick(&model.records);
+                let release = Message::Release { client: record.client, handle: record.handle };
+                send(&mut table, &mut events, release).unwrap();
+                serve(&mut model, release).unwrap();
+            }
+            assert!(table.records().eq(model.records.iter().map(record)));
         }
     });
 }
@@ -185,6 +238,11 @@ fn bytes_that_are_not_sound() {
         let mut events = EventBuffer::new();
         let answer = table.release(&mut events, 0, Handle(1));
         assert_eq!(answer.err(), Some(Refusal::Table));
+        let mut items = [Item::new(0, 0, Mode::PR, 0, 9)];
+        let mut events = ListEventBuffer::new();
+        let listed = table.request_list(&mut events, &mut items);
+        assert_eq!(listed.err(), Some(Refusal::Table));
+        assert_eq!(items, [Item::new(0, 0, Mode::PR, 0, 9)]);
         assert_eq!(map.note(&mut log, PIECE.outline(), 1), Err(Refusal::Map));
         assert_eq!(Map::new().note(&mut log, PIECE.outline(), 1), Err(Refusal::Log));
         assert_eq!(map.write(&mut [0], PIECE), Err(Refusal::Map));

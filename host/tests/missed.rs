@@ -2,6 +2,7 @@
 //! library and by the model.
 
 mod both;
+mod lists;
 mod piped;
 mod runs;
 mod transcript;
@@ -16,7 +17,7 @@ use transcript::{play, play_on};
 
 /// A record on [0,9] of stripe 0.
 fn record(handle: u64, mode: Mode, state: State, number: u64) -> Record {
-    Record { handle, client: 0, stripe: 0, mode, state, number, first: 0, last: 9 }
+    Record { handle, client: 0, stripe: 0, mode, state, number, first: 0, last: 9, marked: false }
 }
 
 /// A table with one lock on [0,9], with number 1 unless it is PR.

@@ -6,6 +6,10 @@
 mod both;
 mod runs;
 
+use gilboreth_host::beside::Beside;
+use gilboreth_host::calls::LIBRARY;
+use gilboreth_host::entries::Item;
+use gilboreth_host::model::list::LIST_EVENTS_BYTES as LIST_EVENTS;
 use gilboreth_host::model::locks::{encode, Answer, EVENTS_BYTES as EVENTS};
 use gilboreth_host::model::modes::{Mode, State};
 use gilboreth_host::model::serve::Message;
@@ -24,6 +28,7 @@ fn table(issued: u64, records: u64) -> Vec<u8> {
         number: 0,
         first: 0,
         last: 9,
+        marked: false,
     };
     encode(&Table { issued, records: (1..=records).map(record).collect(), ..Table::default() })
 }
@@ -60,6 +65,63 @@ fn request() {
     answers(7, &full, EVENTS, message(63, 15, 4, 5, 5));
     answers(8, &table(4_294_967_294, 256), EVENTS, message(63, 15, 4, 5, 5));
     answers(0, &table(4_294_967_294, 255), EVENTS, message(63, 15, 4, 5, 5));
+}
+
+/// The whole list first, by its buffers and its length, and then each item. A refused list changes no
+/// item, and a refused item none but itself.
+#[test]
+fn request_list() {
+    let asked = |client, stripe, mode, first, last| Item {
+        client,
+        stripe,
+        mode,
+        first,
+        last,
+        refusal: 77,
+        handle: 77,
+        events: 77,
+    };
+    let answers = |refusal: u64, table: &[u8], event_bytes: usize, count: usize| {
+        let (mut new_table, mut events) = (table.to_vec(), vec![0xEE; event_bytes]);
+        let items = vec![asked(0, 1, 1, 0, 9); count];
+        let mut new_items = items.clone();
+        let listed = Beside::new(LIBRARY).list(&mut new_table, &mut events, &mut new_items);
+        assert_eq!(listed.refusal, refusal);
+        if refusal != 0 {
+            assert_eq!(listed, Answer { refusal, handle: 0, events: 0 });
+            assert!(new_table == table && events == vec![0xEE; event_bytes] && new_items == items);
+        }
+    };
+    let empty = table(0, 0);
+    answers(1, &damaged(empty.clone()), LIST_EVENTS - 1, 65);
+    answers(1, &empty, EVENTS, 1);
+    answers(2, &damaged(empty.clone()), LIST_EVENTS, 65);
+    answers(2, &empty[..10_312], LIST_EVENTS, 65);
+    answers(19, &empty, LIST_EVENTS, 65);
+    answers(0, &empty, LIST_EVENTS, 64);
+    answers(0, &empty, LIST_EVENTS, 0);
+
+    let refused = |refusal: u64, table: &[u8], item: Item| {
+        let (mut new_table, mut events) = (table.to_vec(), vec![0xEE; LIST_EVENTS]);
+        let mut items = [item];
+        let listed = Beside::new(LIBRARY).list(&mut new_table, &mut events, &mut items);
+        assert_eq!((listed.refusal, items[0].refusal), (0, refusal));
+        if refusal != 0 {
+            assert_eq!(items[0], Item { refusal, handle: 0, events: 0, ..item });
+            assert!(
+                new_table == table && events[..4] == [0; 4] && events[4..] == vec![0xEE; 22_528]
+            );
+        }
+    };
+    let full = table(4_294_967_295, 256);
+    refused(3, &full, asked(64, 16, 0, 5, 4));
+    refused(4, &full, asked(63, 16, 0, 5, 4));
+    refused(5, &full, asked(63, 15, 0, 5, 4));
+    refused(5, &full, asked(63, 15, 5, 5, 4));
+    refused(6, &full, asked(63, 15, 4, 5, 4));
+    refused(7, &full, asked(63, 15, 4, 5, 5));
+    refused(8, &table(4_294_967_294, 256), asked(63, 15, 4, 5, 5));
+    refused(0, &table(4_294_967_294, 255), asked(63, 15, 4, 5, 5));
 }
 
 /// A message of client and handle.

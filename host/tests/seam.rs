@@ -3,7 +3,8 @@
 
 use gilboreth_host::random::{for_seeds, Random};
 use gilboreth_host::{
-    Answer, EventBuffer, Handle, Kind, Log, Map, Mode, Number, Piece, Record, Refusal, Table,
+    Answer, Event, EventBuffer, Handle, Item, Kind, ListEventBuffer, Log, Map, Mode, Number, Piece,
+    Record, Refusal, Table,
 };
 
 /// A stripe of a server: its map in memory, its log and image on disk.
@@ -137,17 +138,27 @@ fn the_old_flush_arrives_between_a_cut_and_the_resend() {
 
 const IMAGE: u64 = 48;
 
-/// The write grants of stripe 0 over a session, in the order in which they came.
+/// The write grants of stripe 0 over a session of messages and lists, in the order in which they came.
 fn grants(random: &mut Random) -> Vec<Record> {
     let (mut table, mut events) = (Table::new(), EventBuffer::new());
+    let mut list_events = ListEventBuffer::new();
     let mut grants = Vec::new();
     for _ in 0..60 {
         let records: Vec<Record> = table.records().collect();
-        let answer = if records.is_empty() || random.once_in(3) {
+        let ask = |random: &mut Random| {
             let (client, mode) = (random.below(4), 1 + random.below(4));
             let stripe = u64::from(random.once_in(4));
             let first = random.below(IMAGE);
-            let last = first + random.below(12);
+            Item::new(client, stripe, mode, first, first + random.below(12))
+        };
+        let answer = if records.is_empty() || random.once_in(3) {
+            if random.once_in(8) {
+                let mut items = [ask(random), ask(random)];
+                let events = table.request_list(&mut list_events, &mut items).unwrap();
+                grants.extend(events.filter(numbered));
+                continue;
+            }
+            let Item { client, stripe, mode, first, last, .. } = ask(random);
             table.request(&mut events, client, stripe, mode, first, last)
         } else {
             let Record { client, handle, .. } = random.pick(&records);
@@ -157,11 +168,14 @@ fn grants(random: &mut Random) -> Vec<Record> {
                 _ => table.release(&mut events, client, handle),
             }
         };
-        let events = answer.into_iter().flat_map(|answer| answer.events);
-        let granted = events.filter(|event| event.kind == Kind::Grant).map(|event| event.record);
-        grants.extend(granted.filter(|lock| lock.stripe == 0 && lock.mode != Mode::PR));
+        grants.extend(answer.into_iter().flat_map(|answer| answer.events).filter(numbered));
     }
-    grants
+    grants.into_iter().map(|event: Event| event.record).collect()
+}
+
+/// A grant of stripe 0 with a number.
+fn numbered(event: &Event) -> bool {
+    event.kind == Kind::Grant && event.record.stripe == 0 && event.record.mode != Mode::PR
 }
 
 /// A piece of a grant: the place of the grant in its session, and the piece.
@@ -205,7 +219,7 @@ fn pieces(random: &mut Random, grants: &[Record]) -> Vec<Flush> {
 #[test]
 fn flushes_in_any_order() {
     let mut contested = 0;
-    for_seeds(0..1_000, |random| {
+    for_seeds(0..1_300, |random| {
         let grants = grants(random);
         let mut pieces = pieces(random, &grants);
         let mut began = vec![0; IMAGE as usize];

@@ -10,7 +10,7 @@ use gilboreth_host::calls::SHIPPED;
 
 #[test]
 fn locks() {
-    use lock_scenes::{damage, drawn, edges, limits, sessions};
+    use lock_scenes::{damage, drawn, edges, limits, lists, sessions};
     let mut shipped = Beside::new(SHIPPED);
     sessions::play(&mut shipped, 0..40, 4);
     sessions::play(&mut shipped, 0..4, 9);
@@ -27,7 +27,18 @@ fn locks() {
     edges::numbers(&mut shipped);
     edges::fields(&mut shipped);
     edges::lengths(&mut shipped);
-    shipped.reached(80_000, &[0, 1, 2, 3, 4, 5, 6, 7, 8, 9, 10, 11]);
+    lists::lengths(&mut shipped);
+    lists::rules(&mut shipped);
+    lists::bad_items(&mut shipped);
+    lists::full_tables(&mut shipped, 0..2);
+    lists::drawn_tables(&mut shipped, 0..500);
+    lists::one_by_one(&mut shipped, 0..200);
+    lists::sessions(&mut shipped, 0..20, 3);
+    lists::sessions(&mut shipped, 80..84, 1);
+    lists::most_events(&mut shipped);
+    lists::nothing_accepted(&mut shipped);
+    shipped.reached(90_000, &[0, 1, 2, 3, 4, 5, 6, 7, 8, 9, 10, 11, 19]);
+    shipped.reached_items(100_000, &[0, 3, 4, 5, 6, 7, 8]);
 }
 
 #[test]

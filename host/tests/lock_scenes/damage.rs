@@ -88,6 +88,7 @@ pub fn pairs(beside: &mut Beside, seeds: Range<u64>) {
         number: handle,
         first: 10 * handle,
         last: 10 * handle + 5,
+        marked: false,
     };
     let mut full =
         Table { issued: 256, records: (1..=256).map(lock).collect(), ..Table::default() };

@@ -104,5 +104,6 @@ fn record(random: &mut Random, table: &Table, stripes: u64, spread: u64) -> Reco
         number,
         first,
         last: first + random.below(EOF.min(first + 8) - first + 1),
+        marked: state == State::Waiting && random.once_in(2),
     }
 }

@@ -3,7 +3,7 @@
 
 use crate::tables::{table, with, END, RECORDS};
 use gilboreth_host::beside::Beside;
-use gilboreth_host::model::locks::{event_at, record_at, EVENTS_BYTES, RECORD_BYTES, TABLE_BYTES};
+use gilboreth_host::model::locks::{event_at, record_at, EVENTS_BYTES, SHOWN_BYTES, TABLE_BYTES};
 use gilboreth_host::model::serve::Message;
 use gilboreth_host::model::{EOF, HIGHEST};
 
@@ -43,8 +43,8 @@ fn naming(client: u64, handle: u64) -> [Message; 3] {
     ]
 }
 
-/// Each integer of a record's six, each half of its range, and each integer before the records, at 0,
-/// at its limits and past them, one at a time; a range also as a whole.
+/// Each integer of a record's six, each half of its range, its mark, and each integer before the records,
+/// at 0, at its limits and past them, one at a time; a range also as a whole.
 pub fn fields(beside: &mut Beside) {
     let integers = [0, 1, 2, 3, 4, 5, 6, 7, 8, 15, 16, 63, 64, 255, 256, 257, 0x7FFF_FFFF];
     let mut tables = Vec::new();
@@ -57,7 +57,7 @@ pub fn fields(beside: &mut Beside) {
         for (first, last) in BYTES.into_iter().flat_map(|first| BYTES.map(|last| (first, last))) {
             let mut table = table();
             table[at + 24..at + 32].copy_from_slice(&first.to_be_bytes());
-            table[at + 32..at + RECORD_BYTES].copy_from_slice(&last.to_be_bytes());
+            table[at + 32..at + SHOWN_BYTES].copy_from_slice(&last.to_be_bytes());
             tables.push(table);
         }
     }

@@ -5,14 +5,19 @@ use gilboreth_host::model::table::{Record, Table};
 use gilboreth_host::model::EOF;
 use gilboreth_host::random::Random;
 
+/// Client, stripe, mode, first and last of a request on a crowded place.
+pub fn crowded(random: &mut Random) -> [u64; 5] {
+    let (client, stripe, mode) = (random.below(4), random.below(2), 1 + random.below(4));
+    let start = if random.once_in(4) { EOF - 24 } else { 0 };
+    let first = start + random.below(24);
+    [client, stripe, mode, first, (first + random.below(8)).min(EOF)]
+}
+
 /// A request on a crowded place, so many times in ten, or a message on some record, most often a
 /// held one, and now and then by another client.
 pub fn message(table: &Table, random: &mut Random, requests: u64) -> Message {
     if table.records.is_empty() || random.below(10) < requests {
-        let (client, stripe, mode) = (random.below(4), random.below(2), 1 + random.below(4));
-        let start = if random.once_in(4) { EOF - 24 } else { 0 };
-        let first = start + random.below(24);
-        let last = (first + random.below(8)).min(EOF);
+        let [client, stripe, mode, first, last] = crowded(random);
         return Message::Request { client, stripe, mode, first, last };
     }
     let any = random.once_in(4) || table.records.iter().all(Record::waiting);

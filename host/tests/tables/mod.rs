@@ -5,7 +5,7 @@ use gilboreth_host::model::modes::{Mode, State};
 use gilboreth_host::model::table::{Record, Table};
 
 /// Seven handles, and number 3 on stripe 0. A canceling NBW lies under a BW, two PR share bytes,
-/// and an NBW waits; of stripe 1 there is an NBW with number 1 on the same bytes.
+/// and an NBW waits, unmarked; of stripe 1 there is an NBW with number 1 on the same bytes.
 pub fn table() -> Vec<u8> {
     let record = |handle, stripe, mode, state, number, first, last| Record {
         handle,
@@ -16,6 +16,7 @@ pub fn table() -> Vec<u8> {
         number,
         first,
         last,
+        marked: false,
     };
     let mut table = Table { issued: 7, ..Table::default() };
     table.numbers[0] = 3;
@@ -32,7 +33,7 @@ pub fn table() -> Vec<u8> {
 }
 
 /// The offset of a record's integer: handle, client, stripe, mode, state, number,
-/// then the high and low halves of first and last.
+/// then the high and low halves of first and last, and the mark.
 const fn at(record: usize, integer: usize) -> usize {
     record_at(record) + 4 * integer
 }
@@ -46,6 +47,7 @@ const NUMBER: usize = 5;
 const FIRST: usize = 7;
 const LAST_HIGH: usize = 8;
 const LAST: usize = 9;
+const MARK: usize = 10;
 
 /// How many records it has, and where their bytes end.
 pub const RECORDS: usize = 6;
@@ -62,7 +64,7 @@ pub fn with(mut bytes: Vec<u8>, changes: &[(usize, u32)]) -> Vec<u8> {
 /// A name, and the integers to put at some offsets.
 type Change = (&'static str, &'static [(usize, u32)]);
 
-pub const SOUND: [Change; 13] = [
+pub const SOUND: [Change; 15] = [
     ("as it is", &[]),
     ("the highest client", &[(at(0, CLIENT), 63)]),
     ("the highest stripe", &[(at(4, STRIPE), 15)]),
@@ -76,9 +78,11 @@ pub const SOUND: [Change; 13] = [
     ("an NBW on a canceling NBW", &[(at(1, MODE), 2), (at(1, STATE), 3)]),
     ("a waiting PW over anything", &[(at(4, MODE), 4)]),
     ("a waiting PR doesn't count as a write", &[(at(4, MODE), 1), (number_at(0), 7)]),
+    ("a marked request that waits", &[(at(4, MARK), 1)]),
+    ("a marked PR that waits", &[(at(4, MARK), 1), (at(4, MODE), 1)]),
 ];
 
-pub const UNSOUND: [Change; 32] = [
+pub const UNSOUND: [Change; 41] = [
     ("handle 0", &[(at(0, HANDLE), 0)]),
     ("a handle that isn't issued", &[(0, 6)]),
     ("equal handles", &[(at(1, HANDLE), 1)]),
@@ -110,6 +114,15 @@ pub const UNSOUND: [Change; 32] = [
     ("one common byte", &[(at(1, FIRST), 9), (at(1, MODE), 4)]),
     ("a PR on a BW", &[(at(2, FIRST), 20)]),
     ("a PR on a canceling BW", &[(at(2, FIRST), 20), (at(1, STATE), 3)]),
+    ("a waiting request with mark 2", &[(at(4, MARK), 2)]),
+    ("a waiting request with mark 2^24", &[(at(4, MARK), 0x0100_0000)]),
+    ("a waiting request with mark 2^32 - 1", &[(at(4, MARK), 0xFFFF_FFFF)]),
+    ("a canceling lock with a mark", &[(at(0, MARK), 1)]),
+    ("a granted lock with a mark", &[(at(1, MARK), 1)]),
+    ("a granted lock with mark 2", &[(at(5, MARK), 2)]),
+    ("a granted PR with a mark", &[(at(2, MARK), 1)]),
+    ("an asked lock with a mark", &[(at(3, MARK), 1)]),
+    ("an asked lock with mark 2^32 - 1", &[(at(3, MARK), 0xFFFF_FFFF)]),
     ("257 records", &[(RECORDS_AT, 257)]),
     ("2^32 - 1 records", &[(RECORDS_AT, 0xFFFF_FFFF)]),
     ("a byte after the records", &[(END, 0x0100_0000)]),

@@ -1,9 +1,14 @@
 //! Transcripts: one call to a line. First the message as the line program reads it,
 //! then the answer and the events that must come back, with spaces between.
+//! Lines with `I` in place of `R` that follow each other are the items of one list.
 
 use crate::both::serve;
 use crate::piped::written;
+use gilboreth_host::beside::Beside;
+use gilboreth_host::calls::LIBRARY;
+use gilboreth_host::entries::Item;
 use gilboreth_host::model::line::line;
+use gilboreth_host::model::list::LIST_EVENTS_BYTES;
 use gilboreth_host::model::locks::{event_at, Answer, EVENTS_BYTES, EVENT_BYTES, TABLE_BYTES};
 use gilboreth_host::model::serve::Message;
 
@@ -22,10 +27,23 @@ pub fn play(transcript: &str) -> Vec<u8> {
     table
 }
 
-/// Plays a transcript on a table, through the four entries on bytes: the library's and the model's.
+/// Plays a transcript on a table, through the entries on bytes: the library's and the model's.
 pub fn play_on(table: &mut [u8], transcript: &str) {
-    for call in calls(transcript) {
-        assert_eq!(served(table, &call[0]), call[1..], "{}", call[0]);
+    let calls = calls(transcript);
+    let is_item = |call: &[String]| call[0].starts_with('I');
+    let mut rest = &calls[..];
+    while !rest.is_empty() {
+        let items = rest.iter().take_while(|call| is_item(call)).count();
+        let (now, later) = rest.split_at(items.max(1));
+        if items > 0 {
+            let asked: Vec<&str> = now.iter().map(|call| call[0].as_str()).collect();
+            for (call, answer) in now.iter().zip(listed(table, &asked)) {
+                assert_eq!(answer, call[1..], "{}", call[0]);
+            }
+        } else {
+            assert_eq!(served(table, &now[0][0]), now[0][1..], "{}", now[0][0]);
+        }
+        rest = later;
     }
 }
 
@@ -35,11 +53,44 @@ fn calls(transcript: &str) -> Vec<Vec<String>> {
     text.lines().map(words).filter(|call| !call.is_empty()).collect()
 }
 
+fn numbers(fields: &str) -> Vec<u64> {
+    fields.split(',').map(|field| field.parse().unwrap()).collect()
+}
+
+/// The answers of a list's items, each with its events, read from items and event buffer by hand.
+/// A list changes no byte after its events; where no item is accepted, it changes no byte of the table.
+fn listed(table: &mut [u8], asked: &[&str]) -> Vec<Vec<String>> {
+    let item = |asked: &&str| match numbers(asked.strip_prefix("I,").unwrap()).as_slice() {
+        &[client, stripe, mode, first, last] => {
+            Item { client, stripe, mode, first, last, refusal: 99, handle: 99, events: 99 }
+        }
+        _ => panic!("no such item: {asked}"),
+    };
+    let mut items: Vec<Item> = asked.iter().map(item).collect();
+    let mut buffer = vec![0xEE; LIST_EVENTS_BYTES + 5];
+    let old_table = table.to_vec();
+    let all = Beside::new(LIBRARY).list(table, &mut buffer, &mut items);
+    let events: u64 = items.iter().map(|item| item.events).sum();
+    assert_eq!(all, Answer { refusal: 0, handle: 0, events });
+    assert_eq!(buffer[..4], (events as u32).to_be_bytes());
+    assert!(buffer[event_at(events as usize)..].iter().all(|&byte| byte == 0xEE));
+    if items.iter().all(|item| item.refusal != 0) {
+        assert!(table == old_table);
+    }
+    let mut lines = buffer[4..].chunks(EVENT_BYTES).take(events as usize).map(event);
+    let mut answer = |item: &Item| {
+        let mut answer = vec![format!("=,{},{}", item.refusal, item.handle)];
+        answer.extend(lines.by_ref().take(item.events as usize));
+        answer
+    };
+    items.iter().map(&mut answer).collect()
+}
+
 /// The answer and the events of one message, read from the event buffer by hand.
 /// A refused message changes no byte; an accepted one changes none after its events.
 fn served(table: &mut [u8], message: &str) -> Vec<String> {
     let (letter, fields) = message.split_once(',').unwrap();
-    let n: Vec<u64> = fields.split(',').map(|field| field.parse().unwrap()).collect();
+    let n = numbers(fields);
     let mut buffer = vec![0xEE; EVENTS_BYTES + 5];
     let (old_table, old_buffer) = (table.to_vec(), buffer.clone());
     let message = match (letter, n.as_slice()) {

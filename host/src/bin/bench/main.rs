@@ -116,6 +116,7 @@ fn table(count: u64, record: impl Fn(Record) -> Record) -> Vec<u8> {
         number: handle,
         first: 0,
         last: 9,
+        marked: false,
     };
     let records = (1..=count).map(plain).map(record).collect();
     let mut table = Table { issued: 2 * count, records, ..Table::default() };
