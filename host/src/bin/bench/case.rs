@@ -1,6 +1,8 @@
 //! One call measured: the library beside the shipped Rust.
 
 use gilboreth_host::calls::{Calls, LIBRARY, SHIPPED};
+use gilboreth_host::entries::Item;
+use gilboreth_host::model::locks::Answer;
 use gilboreth_host::model::stripe::Piece;
 use std::time::{Duration, Instant};
 
@@ -14,6 +16,18 @@ const MEMCPY: Calls = Calls { write: copy, ..SHIPPED };
 fn copy(_: &[u8], image: &mut [u8], piece: Piece<&[u8]>) -> u64 {
     image[piece.first as usize..][..piece.bytes.len()].copy_from_slice(piece.bytes);
     0
+}
+
+/// As many single requests of the library, as what a list is to save.
+const SINGLES: Calls = Calls { request_list: one_by_one, ..LIBRARY };
+
+fn one_by_one(table: &mut [u8], events: &mut [u8], items: &mut [Item]) -> Answer {
+    for item in items {
+        let Item { client, stripe, mode, first, last, .. } = *item;
+        let answer = (LIBRARY.request)(table, events, client, stripe, mode, first, last);
+        (item.refusal, item.handle, item.events) = (answer.refusal, answer.handle, answer.events);
+    }
+    Answer { refusal: 0, handle: 0, events: 0 }
 }
 
 /// A call on two buffers, which answers a refusal number.
@@ -64,7 +78,7 @@ impl Case<'_> {
     pub fn row(&self) {
         self.begin();
         let [library, shipped] = self.medians([LIBRARY, SHIPPED]);
-        self.print([library, shipped], library <= 2 * shipped, ["", "", ""].map(String::from));
+        self.print([library, shipped], library <= 2 * shipped, &["", "", ""].map(String::from));
     }
 
     /// The same where at most so long, and at most 3 times the Rust, is wanted.
@@ -72,7 +86,7 @@ impl Case<'_> {
         self.begin();
         let [library, shipped] = self.medians([LIBRARY, SHIPPED]);
         let as_wanted = library <= wanted && library <= 3 * shipped;
-        self.print([library, shipped], as_wanted, ["", "", ""].map(String::from));
+        self.print([library, shipped], as_wanted, &["", "", ""].map(String::from));
     }
 
     /// The same for a write of so many bytes, with memcpy beside. Wanted is at most 2 times the Rust,
@@ -83,7 +97,17 @@ impl Case<'_> {
         let speed = micros(memcpy) / micros(library);
         let rate = bytes as f64 / 1_000.0 / micros(library);
         let beside = [figure(memcpy), format!("{speed:.2}"), format!("{rate:.1}")];
-        self.print([library, shipped], library <= 2 * shipped && speed >= wanted, beside);
+        self.print([library, shipped], library <= 2 * shipped && speed >= wanted, &beside);
+    }
+
+    /// The same for a list, with as many single requests beside. Wanted is at most 2 times the Rust, and
+    /// less than this part of the single requests.
+    pub fn row_beside_singles(&self, wanted: f64) {
+        self.begin();
+        let [library, shipped, singles] = self.medians([LIBRARY, SHIPPED, SINGLES]);
+        let part = micros(library) / micros(singles);
+        let beside = [figure(singles), format!("{part:.2}")];
+        self.print([library, shipped], library <= 2 * shipped && part < wanted, &beside);
     }
 
     fn begin(&self) {
@@ -91,13 +115,13 @@ impl Case<'_> {
         self.agree();
     }
 
-    fn print(&self, times: [Duration; 2], as_wanted: bool, beside: [String; 3]) {
+    fn print(&self, times: [Duration; 2], as_wanted: bool, beside: &[String]) {
         let ratio = micros(times[0]) / micros(times[1]);
         let mark = if as_wanted { ' ' } else { '*' };
         let ratio = format!("{ratio:.1} {mark}");
         let [library, shipped] = times.map(figure);
-        let [memcpy, speed, rate] = beside;
-        line([&self.name, &library, &shipped, &ratio, &memcpy, &speed, &rate]);
+        let beside = beside.iter().map(String::as_str);
+        line([&*self.name, &library, &shipped, &ratio].into_iter().chain(beside));
     }
 
     /// Both sides make the same of the buffers.
@@ -112,13 +136,14 @@ impl Case<'_> {
 }
 
 /// The columns of the table, and the line below them. In Markdown the table stays one.
-pub fn head() {
-    line(["call", "library", "Rust", "ratio  ", "memcpy", "of memcpy", "GB/s"]);
-    println!("|{:-<50}|{}", "", ["----------:|"; 6].concat());
+pub fn head(beside: &[&str]) {
+    line(["call", "library", "Rust", "ratio  "].into_iter().chain(beside.iter().copied()));
+    println!("|{:-<50}|{}", "", "----------:|".repeat(3 + beside.len()));
 }
 
-fn line([name, fields @ ..]: [&str; 7]) {
-    let fields: String = fields.iter().map(|field| format!(" {field:>9} |")).collect();
+fn line<'a>(mut fields: impl Iterator<Item = &'a str>) {
+    let name = fields.next().unwrap_or_default();
+    let fields: String = fields.map(|field| format!(" {field:>9} |")).collect();
     println!("| {name:<48} |{fields}");
 }
 

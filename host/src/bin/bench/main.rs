@@ -4,13 +4,16 @@ mod case;
 mod search;
 
 use case::{clock, head, micros, Case, ROUNDS};
+use gilboreth_host::entries::Item;
 use gilboreth_host::logs::kinds;
+use gilboreth_host::model::list::LIST_EVENTS_BYTES;
 use gilboreth_host::model::locks::{encode, EVENTS_BYTES};
 use gilboreth_host::model::modes::{Mode, State};
 use gilboreth_host::model::runs::{Run, ENTRIES};
 use gilboreth_host::model::stripe::{encode_log, encode_map, Piece, MAP_BYTES};
 use gilboreth_host::model::table::{Record, Table};
 use gilboreth_host::model::EOF;
+use std::cell::RefCell;
 use std::time::Duration;
 
 /// Progress goes to stderr, the table to stdout. With `search SECONDS` it looks for the worst restart.
@@ -30,12 +33,15 @@ fn main() {
 fn measure() {
     println!("Microseconds a call. {} A * marks what misses its bound.", measured());
     println!();
-    head();
+    head(&["memcpy", "of memcpy", "GB/s"]);
     notes();
     writes();
     restarts();
     requests();
     acknowledge();
+    println!();
+    head(&["singles", "of them"]);
+    lists();
     eprintln!(
         "Each time is a median over {ROUNDS} rounds, less the clock's own {:.3} µs.",
         micros(clock())
@@ -170,4 +176,29 @@ fn acknowledge() {
         call: &|calls, table, events| (calls.acknowledge)(table, events, 0, 1).refusal,
     }
     .row();
+}
+
+/// A list for NBW on bytes that nobody holds, beside locks of the stripe. All items are granted, and so
+/// are the same requests one by one: each is widened up to the one before it, as they come in falling order.
+fn lists() {
+    let far = |r: Record| Record { first: 100 * r.handle, last: 100 * r.handle + 9, ..r };
+    for records in [0, 100, 190] {
+        for count in [1, 8, 64] {
+            let ask = |place: u64| Item::new(1, 0, Mode::NBW as u64, place, place + 9);
+            let items: Vec<Item> =
+                (0..count).rev().map(|place| ask(1_000_000 + 100 * place)).collect();
+            let items = RefCell::new(items);
+            let plural = if count == 1 { "" } else { "s" };
+            Case {
+                name: format!("list of {count} item{plural} beside {records} held, one stripe"),
+                buffers: [table(records, far), vec![0; LIST_EVENTS_BYTES]],
+                call: &|calls, table, events| {
+                    let items = &mut *items.borrow_mut();
+                    let answer = (calls.request_list)(table, events, items);
+                    items.iter().fold(answer.refusal, |refusals, item| refusals | item.refusal)
+                },
+            }
+            .row_beside_singles(if count == 64 { 1.0 / 3.0 } else { f64::INFINITY });
+        }
+    }
 }
