@@ -7,8 +7,11 @@
  *     note FIRST LENGTH NUMBER        the image's length is that of the buffer
  *     write FIRST NUMBER              of the bytes in piece
  *     restart
+ *     item CLIENT STRIPE MODE FIRST LAST      puts it behind the items of the list to come, and answers how many they are
+ *     list                                    requests this list
  *
- * A message answers refusal, handle and events; note, write and restart the refusal.
+ * A message answers refusal, handle and events; note, write and restart the refusal. A list answers refusal, handle and
+ * events, and then the eight numbers of each item.
  */
 #define _POSIX_C_SOURCE 200809L
 #include <gilboreth.h>
@@ -66,6 +69,29 @@ static void message(gil_answer a)
     printf("%" PRIu64 " %" PRIu64 " %" PRIu64 "\n", a.refusal, a.handle, a.events);
 }
 
+static gil_item items[GIL_MAX_ITEMS + 1];
+static size_t count;
+
+static void item(const uint64_t n[5])
+{
+    if (count == sizeof items / sizeof *items)
+        exit(1);
+    items[count++] = (gil_item){n[0], n[1], n[2], n[3], n[4], UINT64_MAX, UINT64_MAX, UINT64_MAX};
+    printf("%zu\n", count);
+}
+
+static void list(void)
+{
+    gil_answer a = gil_request_list(LENT(TABLE), LENT(EVENTS), items, count);
+    printf("%" PRIu64 " %" PRIu64 " %" PRIu64, a.refusal, a.handle, a.events);
+    for (gil_item *i = items; i < items + count; i++) {
+        printf(" %" PRIu64 " %" PRIu64 " %" PRIu64 " %" PRIu64 " %" PRIu64, i->client, i->stripe, i->mode, i->first, i->last);
+        printf(" %" PRIu64 " %" PRIu64 " %" PRIu64, i->refusal, i->handle, i->events);
+    }
+    putchar('\n');
+    count = 0;
+}
+
 int main(void)
 {
     char *line = NULL;
@@ -86,6 +112,10 @@ int main(void)
             get(buffer(words[0]));
         else if (strcmp(name, "request") == 0)
             message(gil_request(LENT(TABLE), LENT(EVENTS), n[0], n[1], n[2], n[3], n[4]));
+        else if (strcmp(name, "item") == 0)
+            item(n);
+        else if (strcmp(name, "list") == 0)
+            list();
         else if (strcmp(name, "acknowledge") == 0)
             message(gil_acknowledge(LENT(TABLE), LENT(EVENTS), n[0], n[1]));
         else if (strcmp(name, "downgrade") == 0)

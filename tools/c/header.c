@@ -1,4 +1,4 @@
-/* header.c: the header's constants beside document 01's numbers and beside what the library does.
+/* header.c: the header's constants beside the numbers of documents 01 and 02 and beside what the library does.
  *
  * Each call is given an input that all of its refusals hold for, as far as they can hold together. It is then mended
  * step by step: so each refusal is reached, and each stands before the next. The order goes to standard output, a line
@@ -11,20 +11,23 @@
 #include <stdlib.h>
 #include <string.h>
 
-/* Document 01. */
+/* Documents 01 and 02. */
 #define IS(name, value) _Static_assert((name) == (value), #name)
-IS(GIL_TABLE_BYTES, 10312);
+IS(GIL_TABLE_BYTES, 11336);
 IS(GIL_EVENTS_BYTES, 11268);
+IS(GIL_LIST_EVENTS_BYTES, 22532);
 IS(GIL_MAP_BYTES, 20484);
 IS(GIL_LOG_BYTES, 40964);
 IS(GIL_BYTES_SHOWN, 40);
-IS(GIL_BYTES_PER_RECORD, 40);
+IS(GIL_BYTES_PER_RECORD, 44);
 IS(GIL_BYTES_PER_EVENT, 44);
 IS(GIL_BYTES_PER_RUN, 20);
 IS(GIL_MAX_CLIENTS, 63 + 1);
 IS(GIL_MAX_STRIPES, 15 + 1);
 IS(GIL_MAX_RECORDS, 256);
 IS(GIL_MAX_EVENTS, 256);
+IS(GIL_MAX_ITEMS, 64);
+IS(GIL_MAX_LIST_EVENTS, 512);
 IS(GIL_MAX_RUNS, 1024);
 IS(GIL_MAX_ENTRIES, 2048);
 IS(GIL_HIGHEST, 4294967295);
@@ -58,13 +61,21 @@ IS(GIL_REFUSED_NUMBER, 15);
 IS(GIL_REFUSED_RUNS, 16);
 IS(GIL_REFUSED_ENTRIES, 17);
 IS(GIL_REFUSED_SMALLER, 18);
+IS(GIL_REFUSED_ITEMS, 19);
 IS(GIL_TABLE_BYTES, 4 + 16 * 4 + 4 + GIL_MAX_RECORDS * GIL_BYTES_PER_RECORD);
 IS(GIL_EVENTS_BYTES, 4 + GIL_MAX_EVENTS * GIL_BYTES_PER_EVENT);
+IS(GIL_LIST_EVENTS_BYTES, 4 + GIL_MAX_LIST_EVENTS * GIL_BYTES_PER_EVENT);
 IS(GIL_MAP_BYTES, 4 + GIL_MAX_RUNS * GIL_BYTES_PER_RUN);
 IS(GIL_LOG_BYTES, 4 + GIL_MAX_ENTRIES * GIL_BYTES_PER_RUN);
+/* An item is eight numbers without a gap. */
+IS(sizeof(gil_item), 8 * 8);
+IS(offsetof(gil_item, last), 4 * 8);
+IS(offsetof(gil_item, refusal), 5 * 8);
+IS(offsetof(gil_item, events), 7 * 8);
 
 static uint8_t table[GIL_TABLE_BYTES], events[GIL_EVENTS_BYTES], map[GIL_MAP_BYTES], log_bytes[GIL_LOG_BYTES];
-static uint8_t image[100 * GIL_MAX_RUNS];
+static uint8_t list_events[GIL_LIST_EVENTS_BYTES], image[100 * GIL_MAX_RUNS];
+static gil_item items[GIL_MAX_ITEMS + 1];
 
 static void check(int holds, const char *what, int line)
 {
@@ -134,6 +145,73 @@ static void request(void)
     memset(table, 0, t);
     put_u32(table, GIL_HIGHEST - 1);
     CHECK(ask(t, e, 0, 0, GIL_MODE_PR, 0, 0) == 0 && gil_event_at(events, 0).handle == GIL_HIGHEST);
+}
+
+static gil_item item(uint64_t client, uint64_t stripe, uint64_t mode, uint64_t first, uint64_t last)
+{
+    return (gil_item){client, stripe, mode, first, last, 77, 77, 77}; /* what the answer held does not matter */
+}
+
+static gil_answer list(size_t table_len, size_t events_len, size_t count)
+{
+    return gil_request_list(table, table_len, list_events, events_len, items, count);
+}
+
+/* The refusal of the only item of an accepted list. What it asked for stays. */
+static uint64_t ask_item(uint64_t client, uint64_t stripe, uint64_t mode, uint64_t first, uint64_t last)
+{
+    gil_item i = item(client, stripe, mode, first, last);
+    gil_answer all = gil_request_list(table, sizeof table, list_events, sizeof list_events, &i, 1);
+    CHECK(all.refusal == 0 && all.handle == 0 && all.events == i.events);
+    CHECK(i.client == client && i.stripe == stripe && i.mode == mode && i.first == first && i.last == last);
+    CHECK(i.refusal == 0 ? i.handle == gil_u32_at(table) : i.handle == 0 && i.events == 0);
+    return i.refusal;
+}
+
+/* The whole list first, and then an item. */
+static void request_list(void)
+{
+    size_t t = sizeof table, e = sizeof list_events, n = GIL_MAX_ITEMS;
+    static uint8_t full[sizeof table];
+    memset(table, 0, t);
+    for (size_t i = 0; i <= n; i++)
+        items[i] = item(1, 2, GIL_MODE_PR, i, GIL_EOF);
+    printf("gil_request_list:");
+    STEP(EVENT_BUFFER, list(t - 1, e - 1, n + 1).refusal);
+    CHECK(list(t, GIL_EVENTS_BYTES, n).refusal == GIL_REFUSED_EVENT_BUFFER);
+    STEP(TABLE, list(t - 1, e, n + 1).refusal);
+    CHECK(list(10312, e, n).refusal == GIL_REFUSED_TABLE);
+    STEP(ITEMS, list(t, e, n + 1).refusal);
+    CHECK(gil_u32_at(table) == 0 && items[0].handle == 77 && items[n].handle == 77);
+    gil_answer all = list(t, e, n);
+    CHECK(all.refusal == 0 && all.handle == 0 && all.events == n && gil_count(list_events) == n);
+    for (size_t i = 0; i < n; i++)
+        CHECK(items[i].refusal == 0 && items[i].handle == i + 1 && items[i].events == 1);
+    CHECK(items[n].handle == 77);
+    for (size_t i = 1; i < GIL_MAX_RECORDS / n; i++)
+        CHECK(list(t, e, n).refusal == 0 && items[n - 1].handle == n * (i + 1));
+    memcpy(full, table, t);
+    put_u32(table, GIL_HIGHEST); /* handles issued */
+    STEP(CLIENT, ask_item(GIL_MAX_CLIENTS, GIL_MAX_STRIPES, GIL_MODE_PW + 1, 5, 4));
+    STEP(STRIPE, ask_item(0, GIL_MAX_STRIPES, GIL_MODE_PW + 1, 5, 4));
+    STEP(MODE, ask_item(0, 0, GIL_MODE_PW + 1, 5, 4));
+    STEP(RANGE, ask_item(0, 0, GIL_MODE_PW, 5, 4));
+    STEP(HANDLES, ask_item(0, 0, GIL_MODE_PW, 5, 5));
+    memcpy(table, full, t);
+    STEP(RECORDS, ask_item(0, 0, GIL_MODE_PW, 5, 5));
+    CHECK(gil_release(table, t, events, sizeof events, 1, 1).refusal == 0);
+    LAST(ask_item(0, 0, GIL_MODE_PW, 5, 6));
+    /* A grant ends where it asked, at once and after a wait; the mark is there while the request waits. */
+    gil_event grant = gil_event_at(list_events, 0);
+    CHECK(grant.handle == GIL_MAX_RECORDS + 1 && grant.state == GIL_STATE_GRANTED && grant.first == 5 && grant.last == 6);
+    uint8_t *mark = record(GIL_MAX_RECORDS - 1) + GIL_BYTES_SHOWN;
+    CHECK(gil_u32_at(mark) == 0);
+    CHECK(gil_release(table, t, events, sizeof events, 1, 2).refusal == 0 && ask_item(3, 0, GIL_MODE_BW, 4, 5) == 0);
+    CHECK(gil_count(list_events) == 1 && gil_event_at(list_events, 0).kind == GIL_EVENT_REVOCATION && gil_u32_at(mark) == 1);
+    CHECK(gil_release(table, t, events, sizeof events, 0, GIL_MAX_RECORDS + 1).events == 1);
+    grant = gil_event_at(events, 0);
+    CHECK(grant.handle == GIL_MAX_RECORDS + 2 && grant.client == 3 && grant.first == 4 && grant.last == 5);
+    CHECK(gil_u32_at(mark - GIL_BYTES_PER_RECORD) == 0);
 }
 
 typedef gil_answer naming(uint8_t *, size_t, uint8_t *, size_t, uint64_t, uint64_t);
@@ -227,9 +305,9 @@ static void stripe(void)
 /* Every refusal has a sentence of its own; no other number has one. */
 static void texts(void)
 {
-    const char *none = gil_refusal_text(GIL_REFUSED_SMALLER + 1);
+    const char *none = gil_refusal_text(GIL_REFUSED_ITEMS + 1);
     CHECK(gil_refusal_text(UINT64_MAX) == none);
-    for (uint64_t i = 0; i <= GIL_REFUSED_SMALLER; i++) {
+    for (uint64_t i = 0; i <= GIL_REFUSED_ITEMS; i++) {
         const char *text = gil_refusal_text(i);
         CHECK(text != none && text[0] != '\0' && text[strlen(text) - 1] == '.');
         for (uint64_t j = 0; j < i; j++)
@@ -263,21 +341,39 @@ static void codes(void)
     CHECK(ask(t, e, 0, 5, GIL_MODE_BW, 3, 9) == 0 && gil_count(events) == 1);
 }
 
-/* The most events of a call: a table that nobody settled, of 255 PR requests with no obstacle, and one more. */
-static void most_events(void)
+/* A table that nobody settled, of so many PR requests with no obstacle. */
+static void wait_for_nothing(uint64_t requests)
 {
-    size_t t = sizeof table, e = sizeof events;
-    memset(table, 0, t);
-    put_u32(table, GIL_MAX_RECORDS - 1);
-    put_u32(record(0) - 4, GIL_MAX_RECORDS - 1);
-    for (uint64_t i = 0; i + 1 < GIL_MAX_RECORDS; i++) {
+    memset(table, 0, sizeof table);
+    put_u32(table, requests);
+    put_u32(record(0) - 4, requests);
+    for (uint64_t i = 0; i < requests; i++) {
         put_u32(record(i), i + 1);
         put_u32(record(i) + 12, GIL_MODE_PR);
         put_u32(record(i) + 16, GIL_STATE_WAITING);
     }
+}
+
+/* The most events of a call: 255 requests are granted, and one more. The most of a list: 192 are granted, and all items
+ * but the last, which wants them all back and waits. */
+static void most_events(void)
+{
+    size_t t = sizeof table, e = sizeof events;
+    wait_for_nothing(GIL_MAX_RECORDS - 1);
     CHECK(gil_request(table, t, events, e, 0, 0, GIL_MODE_PR, 0, 0).events == GIL_MAX_EVENTS);
     gil_event last = gil_event_at(events, GIL_MAX_EVENTS - 1);
     CHECK(last.handle == GIL_MAX_RECORDS && last.number == 0);
+
+    wait_for_nothing(GIL_MAX_RECORDS - GIL_MAX_ITEMS);
+    for (size_t i = 0; i < GIL_MAX_ITEMS; i++)
+        items[i] = item(0, 0, i + 1 < GIL_MAX_ITEMS ? GIL_MODE_PR : GIL_MODE_PW, 0, GIL_EOF);
+    memset(list_events, 0xee, sizeof list_events);
+    CHECK(list(t, sizeof list_events, GIL_MAX_ITEMS).events == GIL_MAX_LIST_EVENTS - 2);
+    CHECK(items[0].events == GIL_MAX_RECORDS - GIL_MAX_ITEMS + 1 && items[1].events == 1);
+    CHECK(items[GIL_MAX_ITEMS - 1].events == GIL_MAX_RECORDS - 1);
+    last = gil_event_at(list_events, GIL_MAX_LIST_EVENTS - 3);
+    CHECK(last.kind == GIL_EVENT_REVOCATION && last.handle == GIL_MAX_RECORDS - 1);
+    CHECK(list_events[sizeof list_events - 2 * GIL_BYTES_PER_EVENT] == 0xee);
 }
 
 /* A null pointer of length 0 is an empty buffer. Every other buffer of the call stays as it is. */
@@ -294,6 +390,18 @@ static void null_buffers(void)
     CHECK(gil_request(NULL, 0, events, e, 0, 0, GIL_MODE_PR, 0, 0).refusal == GIL_REFUSED_TABLE);
     CHECK(gil_request(table, t, NULL, 0, 0, 0, GIL_MODE_PR, 0, 0).refusal == GIL_REFUSED_EVENT_BUFFER);
     CHECK(gil_request(NULL, 0, NULL, 0, 0, 0, GIL_MODE_PR, 0, 0).refusal == GIL_REFUSED_EVENT_BUFFER);
+    /* A list without items is accepted and settles nothing: it writes the count 0. */
+    size_t le = sizeof list_events;
+    memset(list_events, 0xee, le);
+    items[0] = item(0, 0, GIL_MODE_PR, 0, 0);
+    CHECK(gil_request_list(NULL, 0, list_events, le, items, 1).refusal == GIL_REFUSED_TABLE);
+    CHECK(gil_request_list(table, t, NULL, 0, items, 1).refusal == GIL_REFUSED_EVENT_BUFFER);
+    CHECK(gil_request_list(NULL, 0, NULL, 0, NULL, 0).refusal == GIL_REFUSED_EVENT_BUFFER);
+    CHECK(gil_request_list(NULL, 0, list_events, le, NULL, 0).refusal == GIL_REFUSED_TABLE);
+    CHECK(items[0].refusal == 77 && items[0].handle == 77 && list_events[0] == 0xee);
+    gil_answer nothing = gil_request_list(table, t, list_events, le, NULL, 0);
+    CHECK(nothing.refusal == 0 && nothing.handle == 0 && nothing.events == 0);
+    CHECK(gil_count(list_events) == 0 && list_events[4] == 0xee);
     for (size_t i = 0; i < sizeof namings / sizeof *namings; i++) {
         CHECK(namings[i](NULL, 0, events, e, 0, 1).refusal == GIL_REFUSED_TABLE);
         CHECK(namings[i](table, t, NULL, 0, 0, 1).refusal == GIL_REFUSED_EVENT_BUFFER);
@@ -349,11 +457,19 @@ static void deep_calls(void)
     CHECK(ask(t, e, 2, 0, GIL_MODE_PW, 0, 9) == 0 && ask(t, e, 2, 0, GIL_MODE_PW, 0, 9) == GIL_REFUSED_RECORDS);
     CHECK(gil_downgrade(table, t, events, e, 1, 2).refusal == GIL_REFUSED_STATE);
     CHECK(gil_release(table, t, events, e, 2, GIL_MAX_RECORDS).refusal == 0);
+    /* a full list of requests that all wait for the first of them, on a table that it fills, and one that finds no room */
+    for (int i = 0; i < GIL_MAX_ITEMS; i++)
+        CHECK(gil_release(table, t, events, e, 1, 2 + (uint64_t)i).refusal == 0);
+    for (size_t i = 0; i < GIL_MAX_ITEMS; i++)
+        items[i] = item(1, 0, GIL_MODE_PW, 0, 9);
+    CHECK(list(t, sizeof list_events, GIL_MAX_ITEMS).refusal == 0 && items[GIL_MAX_ITEMS - 1].refusal == 0);
+    CHECK(list(t, sizeof list_events, GIL_MAX_ITEMS).refusal == 0 && items[1].refusal == GIL_REFUSED_RECORDS);
 }
 
 static void *everything(void *nothing)
 {
     request();
+    request_list();
     name_handle("gil_acknowledge", gil_acknowledge, GIL_MODE_PR, 0);
     name_handle("gil_downgrade", gil_downgrade, GIL_MODE_BW, 1);
     name_handle("gil_downgrade", gil_downgrade, GIL_MODE_PW, 1);

@@ -3,7 +3,7 @@
     xdr.py [--seed N] CALLER..      (CALLER.. are the words that start caller.c)
 
 What the entries wrote is decoded, and encoded again to the same bytes. What xdrlib encoded is accepted by the entries, and
-means the same: their answers on it are those that document 01 gives.
+means the same: their answers on it are those that documents 01 and 02 give.
 """
 import argparse
 import os
@@ -17,17 +17,22 @@ EOF = 9_223_372_036_854_775_807
 PR, NBW, BW, PW = 1, 2, 3, 4
 WAITING, GRANTED, ASKED, CANCELING = 0, 1, 2, 3
 GRANT, REVOCATION = 1, 2
-TABLE, EVENTS, MAP, LOG = 10_312, 11_268, 20_484, 40_964
+TABLE, EVENTS, LIST_EVENTS, MAP, LOG = 11_336, 11_268, 22_532, 20_484, 40_964
 
 Shown = namedtuple("Shown", "handle client stripe mode state number first last")
-Record = Shown  # a record is what is shown of it
-Event = namedtuple("Event", "kind record")
+Record = namedtuple("Record", "shown mark")
+Event = namedtuple("Event", "kind shown")
+Item = namedtuple("Item", "client stripe mode first last refusal handle events")
 Run = namedtuple("Run", "first last number")
 Table = namedtuple("Table", "issued lasts records")
 
 
-# The layouts, as document 01 has them: each structure is its fields in order, each field a uint, a uhyper or a structure.
-LAYOUTS = {Shown: "uuuuuuhh", Event: ("u", Shown), Run: "hhu"}
+# The layouts, as the documents have them: each structure is its fields in order, each field a uint, a uhyper or a structure.
+LAYOUTS = {Shown: "uuuuuuhh", Record: (Shown, "u"), Event: ("u", Shown), Run: "hhu"}
+
+
+def record(*shown, mark=0):
+    return Record(Shown(*shown), mark)
 
 
 def pack(packer, item):
@@ -81,7 +86,7 @@ class Caller:
         return self.process.stdout.readline().strip()
 
     def __call__(self, *words):
-        """A call's answer: a number, or the three of a message."""
+        """A call's answer: a number, the three of a message, or those of a list and its items."""
         answer = [int(word) for word in self.line(*words).split()]
         return answer[0] if len(answer) == 1 else tuple(answer)
 
@@ -104,25 +109,56 @@ class Messages:
         self.caller = caller
         caller.put("table", encode_table(table))
 
+    @staticmethod
+    def encoded(caller, table):
+        """The refusal of a message on a table that need not be sound."""
+        caller.put("table", encode_table(table))
+        caller.put("events", bytes(EVENTS))
+        return caller("release 0 1")[0]
+
     def send(self, *words):
-        before = bytes(range(1, 253)) * 45  # what the event buffer held
-        self.caller.put("events", before[:EVENTS])
-        refusal, handle, count = self.caller(*words)
+        refusal, handle, events, _ = self.call(EVENTS, *words)
+        return refusal, handle, events
+
+    def call(self, room, *words):
+        before = (bytes(range(1, 253)) * 90)[:room]  # what the event buffer held
+        self.caller.put("events", before)
+        refusal, handle, count, *rest = self.caller(*words)
         data = self.caller.get("table")
         self.table = decode_table(data)
         same("the table encoded again", encode_table(self.table), data)
+        for shown, mark in self.table.records:
+            same("the mark of a held record", mark, mark if shown.state == WAITING else 0)
         data = self.caller.get("events")
         if refusal != 0:
-            same("the event buffer of a refused message", data, before[:EVENTS])
-            return refusal, handle, []
+            same("the event buffer of a refused call", data, before)
+            return refusal, handle, [], rest
         events, end = decode(Event, data)
         same("the count of events", len(events), count)
         same("the events encoded again", encode(events), data[:end])
-        same("the bytes after the events", data[end:], before[end:EVENTS])
-        records = {record.handle: record for record in self.table.records}
-        for event in events:
-            same("an event beside its record", event.record, records[event.record.handle])
-        return refusal, handle, events
+        same("the bytes after the events", data[end:], before[end:])
+        records = {shown.handle: shown for shown, _ in self.table.records}
+        for shown in {event.shown.handle: event.shown for event in events}.values():
+            same("the last event of a record beside it", shown, records[shown.handle])
+        return refusal, handle, events, rest
+
+    def list(self, *asked):
+        """Requests a list: its refusal, the answered items, and the events of each."""
+        for place, numbers in enumerate(asked):
+            same("the count of items", self.caller("item", *numbers), place + 1)
+        refusal, handle, events, rest = self.call(LIST_EVENTS, "list")
+        items = [Item(*rest[place : place + 8]) for place in range(0, len(rest), 8)]
+        same("what the items asked", [tuple(item[:5]) for item in items], [tuple(numbers) for numbers in asked])
+        same("the handle of a list", handle, 0)
+        if refusal != 0:
+            same("the answers in a refused list", {item[5:] for item in items} - {(2**64 - 1,) * 3}, set())
+            return refusal, items, []
+        own = []
+        for item in items:
+            own.append(events[: item.events])
+            events = events[item.events :]
+        same("the events of no item", events, [])
+        return refusal, items, own
 
 
 NAMES = {"R": "request", "A": "acknowledge", "D": "downgrade", "F": "release"}
@@ -131,7 +167,7 @@ NAMES = {"R": "request", "A": "acknowledge", "D": "downgrade", "F": "release"}
 def event_of(line):
     """An event as the line program writes it."""
     kind, *numbers = line.split(",")
-    return Event({"G": GRANT, "V": REVOCATION}[kind], Record(*(int(number) for number in numbers)))
+    return Event({"G": GRANT, "V": REVOCATION}[kind], Shown(*(int(number) for number in numbers)))
 
 
 def examples(caller):
@@ -142,28 +178,57 @@ def examples(caller):
         words = [NAMES[message[0]], *message.split(",")[1:]]
         refusal, handle = (int(number) for number in answer.split(",")[1:])
         same("P1", p1.send(*words), (refusal, handle, [event_of(line) for line in events]))
-    same("P1's table", p1.table, Table(3, [2] + [0] * 15, [Record(3, 2, 0, PR, GRANTED, 0, 0, 9)]))
+    same("P1's table", p1.table, Table(3, [2] + [0] * 15, [record(3, 2, 0, PR, GRANTED, 0, 0, 9)]))
 
-    held = Record(1, 0, 0, NBW, ASKED, 1, 0, EOF)
-    waiting = [Record(handle, handle - 1, 0, NBW, WAITING, 0, 0, 9) for handle in (2, 3, 4)]
+    held = record(1, 0, 0, NBW, ASKED, 1, 0, EOF)
+    waiting = [record(handle, handle - 1, 0, NBW, WAITING, 0, 0, 9) for handle in (2, 3, 4)]
     p2 = Messages(caller, Table(4, [1] + [0] * 15, [held] + waiting))
     granted = [event_of("G,2,1,0,2,3,2,0,9"), event_of("G,3,2,0,2,3,3,0,9"), event_of(f"G,4,3,0,2,1,4,0,{EOF}")]
     same("P2", p2.send("acknowledge 0 1"), (0, 1, granted))
 
-    p3 = Messages(caller, Table(2, [1] + [0] * 15, [held, Record(2, 1, 0, PR, WAITING, 0, 0, 9)]))
+    p3 = Messages(caller, Table(2, [1] + [0] * 15, [held, record(2, 1, 0, PR, WAITING, 0, 0, 9)]))
     same("P3", p3.send("acknowledge 0 1"), (0, 1, []))
 
-    blocking = Record(1, 0, 0, BW, CANCELING, 1, 0, 9)
-    p4 = Messages(caller, Table(2, [1] + [0] * 15, [blocking, Record(2, 1, 0, NBW, WAITING, 0, 0, 9)]))
+    blocking = record(1, 0, 0, BW, CANCELING, 1, 0, 9)
+    p4 = Messages(caller, Table(2, [1] + [0] * 15, [blocking, record(2, 1, 0, NBW, WAITING, 0, 0, 9)]))
     same("P4", p4.send("downgrade 0 1"), (0, 1, [event_of(f"G,2,1,0,2,1,2,0,{EOF}")]))
     same("P4 again", p4.send("downgrade 0 1"), (11, 0, []))
 
-    full = [Record(handle, handle % 64, handle % 16, PR, GRANTED, 0, handle, EOF) for handle in range(1, 257)]
+    full = [record(handle, handle % 64, handle % 16, PR, GRANTED, 0, handle, EOF) for handle in range(1, 257)]
     same("a full table", Messages(caller, Table(4_294_967_294, [0] * 16, full)).send("request 0 0 1 0 0"), (8, 0, []))
     twice = Table(2, [0] * 16, full[:1] + full[:1])
     same("a handle twice", Messages(caller, twice).send("release 1 1"), (2, 0, []))
     highest = Messages(caller, Table(4_294_967_294, [0] * 16, []))
     same("the highest handle", highest.send("request 63 15 4 0 0")[1], 4_294_967_295)
+
+
+def lists(caller):
+    """Marked requests of a list, from tables that xdrlib encoded."""
+    held = record(1, 0, 0, NBW, ASKED, 1, 0, EOF)
+    start = Table(1, [1] + [0] * 15, [held])
+    messages = Messages(caller, start)
+    asked = [(1, 0, NBW, 0, 9), (2, 16, NBW, 0, 9), (2, 0, BW, 20, 29), (3, 1, PW, 5, 5)]
+    refusal, items, own = messages.list(*asked)
+    same("the answers of a list", [item[5:] for item in items], [(0, 2, 0), (4, 0, 0), (0, 3, 0), (0, 4, 1)])
+    same("the events of a list", own, [[], [], [], [event_of("G,4,3,1,4,1,1,5,5")]])
+    waiting = [record(2, 1, 0, NBW, WAITING, 0, 0, 9, mark=1), record(3, 2, 0, BW, WAITING, 0, 20, 29, mark=1)]
+    last = record(4, 3, 1, PW, GRANTED, 1, 5, 5)
+    same("a table with marks", messages.table, Table(4, [1, 1] + [0] * 14, [held] + waiting + [last]))
+    grants = [event_of("G,2,1,0,2,1,2,0,9"), event_of("G,3,2,0,3,1,3,20,29")]
+    same("grants that end where they asked", messages.send("release 0 1"), (0, 1, grants))
+    same("no mark after a grant", [mark for _, mark in messages.table.records], [0, 0, 0])
+
+    # The same table, and marks that xdrlib encoded: a marked request ends where it asked, and another is widened.
+    for mark, end in ((0, 19), (1, 9)):
+        marked = Table(3, [1] + [0] * 15, [held, record(2, 1, 0, NBW, WAITING, 0, 0, 9, mark=mark), waiting[1]])
+        grants = [event_of(f"G,2,1,0,2,1,2,0,{end}"), event_of("G,3,2,0,3,1,3,20,29")]
+        same(f"a mark of {mark}", Messages(caller, marked).send("release 0 1"), (0, 1, grants))
+    for wrong in (held._replace(mark=1), waiting[0]._replace(mark=2), waiting[0]._replace(mark=4_294_967_295)):
+        unsound = Table(2, [1] + [0] * 15, [wrong])
+        same("a wrong mark", Messages.encoded(caller, unsound), 2)
+    same("more than 64 items", Messages(caller, start).list(*asked[:1] * 65)[0], 19)
+    same("64 items", [item.handle for item in Messages(caller, start).list(*asked[3:] * 64)[1]], list(range(2, 66)))
+    same("no items", Messages(caller, start).list(), (0, [], []))
 
 
 def session(caller, chance, length):
@@ -172,20 +237,46 @@ def session(caller, chance, length):
     table, accepted = Table(0, [0] * 16, []), 0
     for _ in range(length):
         caller.put("table", encode_table(table))
-        name = chance.choice(("request", "request", "acknowledge", "downgrade", "release"))
+        name = chance.choice(("request", "request", "list", "acknowledge", "downgrade", "release"))
+        if name == "list":
+            accepted += listed(messages, chance)
+            table = messages.table
+            continue
         if name == "request" or not table.records:
             first = chance.randrange(40)
             last = chance.choice((first, first + chance.randrange(20), EOF))
             words = ("request", chance.randrange(64), chance.randrange(2), chance.randint(1, 4), first, last)
         else:
-            record = chance.choice(table.records)
-            words = (name, record.client, record.handle)
+            shown = chance.choice(table.records).shown
+            words = (name, shown.client, shown.handle)
         refusal, handle, _ = messages.send(*words)
         table, accepted = messages.table, accepted + (refusal == 0)
         if refusal == 0 and words[0] == "request":
             same("the new handle", handle, table.issued)
-            same("the newest record", table.records[-1][:4], (handle, *words[1:4]))
+            same("the newest record", table.records[-1].shown[:4], (handle, *words[1:4]))
     return accepted
+
+
+def listed(messages, chance):
+    """A random list on the caller's table: how many of its items were accepted."""
+    asked = []
+    for _ in range(chance.choice((0, 1, 2, 5))):
+        first = chance.randrange(40)
+        last = chance.choice((first, first + chance.randrange(20), EOF, first - 1 if first else 0))
+        asked.append((chance.randrange(66), chance.randrange(2), chance.randint(1, 4), first, last))
+    refusal, items, own = messages.list(*asked)
+    same("a list", refusal, 0)
+    taken = [item for item in items if item.refusal == 0]
+    same("the new handles", [item.handle for item in taken], [messages.table.issued - n for n in reversed(range(len(taken)))])
+    records = {shown.handle: (shown, mark) for shown, mark in messages.table.records}
+    for item in taken:
+        shown, mark = records[item.handle]
+        same("the range of a marked request", shown[1:4] + shown[6:], item[:3] + item[3:5])
+        same("its mark", mark, int(shown.state == WAITING))
+    for item, events in zip(items, own):
+        if item.refusal != 0:
+            same("a refused item", (item.refusal in (3, 6, 8), item.handle, events), (True, 0, []))
+    return len(taken)
 
 
 def drawn(entries, length):
@@ -270,13 +361,14 @@ def main():
     print(f"xdr: seed {options.seed}", file=sys.stderr)
     chance, caller = random.Random(options.seed), Caller(options.caller)
     examples(caller)
+    lists(caller)
     picture(caller)
     accepted = sum(session(caller, chance, 150) for _ in range(4))
     for _ in range(150):
         stripe(caller, chance)
     if accepted < 200:
-        sys.exit(f"xdr: only {accepted} of 600 messages were accepted")
-    print(f"xdr: P1 to P4, P8 to P10, {accepted} messages and 150 stripes, both ways the same", file=sys.stderr)
+        sys.exit(f"xdr: only {accepted} messages and items were accepted")
+    print(f"xdr: P1 to P4, P8 to P10, lists, {accepted} messages and items and 150 stripes, both ways the same", file=sys.stderr)
 
 
 main()
