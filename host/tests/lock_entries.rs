@@ -193,7 +193,16 @@ fn sessions_with_lists() {
 fn most_events_of_a_list() {
     let mut library = Beside::new(LIBRARY);
     lists::most_events(&mut library);
-    library.reached(1, &[0]);
+    lists::many_events(&mut library);
+    library.reached(2, &[0]);
+}
+
+#[test]
+fn numbers_of_items() {
+    let mut library = Beside::new(LIBRARY);
+    lists::numbers(&mut library);
+    library.reached(5_512, &[0]);
+    library.reached_items(44_100, &[0, 3, 4, 5, 6]);
 }
 
 #[test]

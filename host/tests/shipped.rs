@@ -36,6 +36,8 @@ fn locks() {
     lists::sessions(&mut shipped, 0..20, 3);
     lists::sessions(&mut shipped, 80..84, 1);
     lists::most_events(&mut shipped);
+    lists::many_events(&mut shipped);
+    lists::numbers(&mut shipped);
     lists::nothing_accepted(&mut shipped);
     shipped.reached(90_000, &[0, 1, 2, 3, 4, 5, 6, 7, 8, 9, 10, 11, 19]);
     shipped.reached_items(100_000, &[0, 3, 4, 5, 6, 7, 8]);

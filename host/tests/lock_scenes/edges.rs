@@ -9,10 +9,10 @@ use gilboreth_host::model::{EOF, HIGHEST};
 
 const MOST: u64 = u64::MAX;
 const FAR: u64 = HIGHEST + 1;
-const CLIENTS: [u64; 7] = [0, 5, 63, 64, FAR, FAR + 5, MOST];
-const STRIPES: [u64; 7] = [0, 1, 15, 16, FAR, FAR + 1, MOST];
-const MODES: [u64; 9] = [0, 1, 2, 3, 4, 5, FAR + 1, FAR + 4, MOST];
-const BYTES: [u64; 10] = [0, 9, 10, 50, EOF - 1, EOF, EOF + 1, EOF + 2, MOST - 1, MOST];
+pub const CLIENTS: [u64; 7] = [0, 5, 63, 64, FAR, FAR + 5, MOST];
+pub const STRIPES: [u64; 7] = [0, 1, 15, 16, FAR, FAR + 1, MOST];
+pub const MODES: [u64; 9] = [0, 1, 2, 3, 4, 5, FAR + 1, FAR + 4, MOST];
+pub const BYTES: [u64; 10] = [0, 9, 10, 50, EOF - 1, EOF, EOF + 1, EOF + 2, MOST - 1, MOST];
 const HANDLES: [u64; 11] = [0, 1, 2, 4, 6, 7, 8, HIGHEST, FAR, FAR + 1, MOST];
 
 /// Every choice of numbers for the four messages, each on the same table.

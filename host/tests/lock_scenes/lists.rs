@@ -1,6 +1,7 @@
 //! Lists of marked requests.
 
 use super::drawn;
+use super::edges::{BYTES, CLIENTS, MODES, STRIPES};
 use crate::messages::{crowded, message};
 use crate::tables::{self, with, SOUND, UNSOUND};
 use gilboreth_host::beside::Beside;
@@ -38,7 +39,7 @@ fn items(random: &mut Random, count: u64, astray: u64) -> Vec<Item> {
     (0..count).map(&mut drawn).collect()
 }
 
-/// So many items, or one more or less, or none: most lists are short, and some are full.
+/// How many items a list has: most are short, some are full, and some have one too many.
 fn any_count(random: &mut Random) -> u64 {
     match random.below(16) {
         0 => random.pick(&[0, 63, 64, 65]),
@@ -85,8 +86,8 @@ pub fn lengths(beside: &mut Beside) {
     }
 }
 
-/// Each rule of soundness broken alone is refused with 2, for a list of any length. A table of the length
-/// that it had without marks is too.
+/// Each rule of soundness broken alone is refused with 2, before the length of the list is judged; where it
+/// just holds it isn't.
 pub fn rules(beside: &mut Beside) {
     let mut random = Random::new(0);
     for count in [0, 1, 64, 65] {
@@ -271,32 +272,69 @@ pub fn sessions(beside: &mut Beside, seeds: Range<u64>, requests: u64) {
     });
 }
 
-/// The most events of a list are 510. To revoke a lock takes a request that waits, and none that waits
-/// at the end of a list was granted in it: so of 256 records at most 255 have two events. Here 192 PR
-/// wait though nothing is in their way. The first of 63 PR items settles them, and a last item wants
-/// all of their bytes.
-pub fn most_events(beside: &mut Beside) {
-    let waiting = |handle| Record {
+/// PR requests of a stripe that wait though nothing is in their way, every other one marked.
+fn waiting(range: impl Fn(u64) -> (u64, u64)) -> Vec<u8> {
+    let request = |handle| Record {
         handle,
         client: handle % 64,
         stripe: 3,
         mode: Mode::PR,
         state: State::Waiting,
         number: 0,
-        first: handle,
-        last: handle + 1_000,
+        first: range(handle).0,
+        last: range(handle).1,
         marked: handle % 2 == 0,
     };
-    let table =
-        Table { issued: 192, records: (1..=192).map(waiting).collect(), ..Table::default() };
+    let records = (1..=192).map(request).collect();
+    encode(&Table { issued: 192, records, ..Table::default() })
+}
+
+/// The most events of a list are 510. To revoke a lock takes a request that waits, and none that waits
+/// at the end of a list was granted in it: so of 256 records at most 255 have two events. Here 192 PR
+/// wait. The first of 63 PR items settles them, and a last item wants all of their bytes.
+pub fn most_events(beside: &mut Beside) {
+    let mut table = waiting(|handle| (handle, handle + 1_000));
     let ask = |mode: u64, place| Item::new(9, 3, mode, place, 2_000);
     let mut items: Vec<Item> = (0..63).map(|place| ask(1, place)).chain([ask(4, 0)]).collect();
-    let mut events = vec![0xEE; LIST_EVENTS_BYTES];
-    let answer = beside.list(&mut encode(&table), &mut events, &mut items);
-    assert_eq!(answer, Answer { refusal: 0, handle: 0, events: 510 });
-    let told: Vec<u64> = items.iter().map(|item| item.events).collect();
-    assert_eq!(told, [&[193][..], &[1; 62], &[255]].concat());
-    assert!(events[event_at(510)..].iter().all(|&byte| byte == 0xEE));
+    tells(beside, &mut table, &mut items, &[&[193][..], &[1; 62], &[255]].concat());
+}
+
+/// A list with more than 256 events before many of its items. 192 PR wait in two places. The first item
+/// settles them, the second wants the first place, and 60 are granted on another stripe. Then the second
+/// place is wanted, and at last the other stripe.
+pub fn many_events(beside: &mut Beside) {
+    let mut table = waiting(|handle| if handle > 96 { (1_000, 1_100) } else { (0, 100) });
+    let ask = |stripe, mode: u64, first, last| Item::new(9, stripe, mode, first, last);
+    let mut items = vec![ask(3, 1, 0, 100), ask(3, 4, 0, 100)];
+    items.extend((0..60).map(|place| ask(4, 1, place, 100)));
+    items.extend([ask(3, 4, 1_000, 1_100), ask(4, 4, 0, 100)]);
+    tells(beside, &mut table, &mut items, &[&[193, 97][..], &[1; 60], &[96, 60]].concat());
+}
+
+/// Each item has so many events, and bytes after them all stay.
+fn tells(beside: &mut Beside, table: &mut [u8], items: &mut [Item], events: &[u64]) {
+    let all: u64 = events.iter().sum();
+    let mut buffer = vec![0xEE; LIST_EVENTS_BYTES];
+    let answer = beside.list(table, &mut buffer, items);
+    assert_eq!(answer, Answer { refusal: 0, handle: 0, events: all });
+    assert!(items.iter().map(|item| item.events).eq(events.iter().copied()));
+    assert!(buffer[event_at(all as usize)..].iter().all(|&byte| byte == 0xEE));
+}
+
+/// Every choice of numbers for an item, eight to a list, each list on the same table.
+pub fn numbers(beside: &mut Beside) {
+    let mut random = Random::new(0);
+    let mut asked = Vec::new();
+    for (client, stripe) in CLIENTS.into_iter().flat_map(|c| STRIPES.map(|s| (c, s))) {
+        for (mode, first) in MODES.into_iter().flat_map(|m| BYTES.map(|f| (m, f))) {
+            asked.extend(BYTES.map(|last| [client, stripe, mode, first, last]));
+        }
+    }
+    random.shuffle(&mut asked);
+    for asked in asked.chunks(8) {
+        let mut items: Vec<Item> = asked.iter().map(|&a| item(&mut random, a)).collect();
+        beside.list(&mut tables::table(), &mut buffer(&mut random), &mut items);
+    }
 }
 
 /// An empty list, and one of which every item is refused, leave a table that is not settled as it is, and
