@@ -22,14 +22,14 @@ use Rattle.locks.specs.declared.Item.{Item}
 use Rattle.locks.specs.Settle.{Event}
 use Rattle.locks.specs.Serve.{Outcome}
 use Rattle.locks.specs.Events.{eventFields, eventsOver, Room}
-use Rattle.locks.specs.List.{requestOf, answeredItem, Listed, before, serveList, maxItems, maxListEvents}
+use Rattle.locks.specs.List.{noItem, itemAt, requestOf, answeredItem, Listed, before, serveList, maxItems, maxListEvents}
 use Rattle.locks.proofs.Served.{serve-sound}
 use Rattle.locks.proofs.Lists.{list-few}
 use Rattle.settle.specs.Posts.{putEvents}
 use Rattle.settle.proofs.Written.{events-then}
 use Rattle.serve.specs.declared.Answer.{Answer}
 use Rattle.list.specs.Lists.{listOutcome, listItems, ServesList}
-use Rattle.list.specs.Posts.{blank, itemAt, outcomeOf, Steps}
+use Rattle.list.specs.Posts.{outcomeOf, Steps}
 use Rattle.list.proofs.Judging.{Passed}
 
 -- the items that are done and their events, in front of what is left
@@ -46,7 +46,7 @@ left t xs i = serveList (tableOf width t) (drop i xs)
 -- the item at place i is the first that is left
 at-first : (t : List ℕ) (xs : List Item) (i : ℕ) → i < length xs → left t xs i ≡ before (itemAt xs i) (outcomeOf t (itemAt xs i)) (serveList (outcomeOf t (itemAt xs i) .table) (drop (suc i) xs))
 unfolding serveList
-at-first t xs i l = rw (drop-cons xs i blank l) refl
+at-first t xs i l = rw (drop-cons xs i noItem l) refl
 
 -- one item on
 pub goes-on : (i k : ℕ) (xs : List Item) (t b : List ℕ) (r : ℕ) (ys : List Item) (u c : List ℕ) (es : List Event) → i < length xs → Steps i k xs t b r ys u c

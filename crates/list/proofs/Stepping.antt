@@ -6,7 +6,8 @@ use mathlib.Core.Path.{_≡_, ap}
 use lib.ListN.{length, set}
 use Rattle.locks.specs.declared.Item.{Item}
 use Rattle.locks.specs.Events.{Room}
-use Rattle.list.specs.Posts.{itemAt, outcomeOf, ServesItem, Steps}
+use Rattle.locks.specs.List.{itemAt}
+use Rattle.list.specs.Posts.{outcomeOf, ServesItem, Steps}
 
 pub stepped : (i k : ℕ) (xs : List Item) (t b : List ℕ) (r : Item) (u c : List ℕ) → ServesItem k (itemAt xs i) t b r u c → Steps i k xs t b (k + r .events) (set xs i r) u c
 stepped i k xs t b r u c S = record {

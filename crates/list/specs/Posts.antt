@@ -2,21 +2,14 @@
 use Prim.Native.Nat.{ℕ, _+_}
 use mathlib.Core.Path.{_≡_}
 use mathlib.Core.List.{List}
-use lib.ListN.{length, getD, set}
+use lib.ListN.{length, set}
 use Rattle.common.specs.Counters.{width}
 use Rattle.table.specs.Bytes.{tableOf}
 use Rattle.table.specs.Places.{countOf, Holds}
 use Rattle.locks.specs.declared.Item.{Item}
 use Rattle.locks.specs.Serve.{Outcome, serve}
-use Rattle.locks.specs.List.{requestOf, answeredItem}
+use Rattle.locks.specs.List.{itemAt, requestOf, answeredItem}
 use Rattle.settle.specs.Posts.{putEvents}
-
--- the item at place i; nothing is asked past the end
-abbrev pub blank : Item
-blank = record { client = 0; stripe = 0; mode = 0; first = 0; last = 0; refusal = 0; handle = 0; events = 0 }
-
-abbrev pub itemAt : List Item → ℕ → Item
-itemAt xs i = getD xs i blank
 
 -- what becomes of the item x on the table in t
 abbrev pub outcomeOf : List ℕ → Item → Outcome

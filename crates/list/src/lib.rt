@@ -10,7 +10,8 @@ ghost use Rattle.xdr.specs.Be.{putBe};
 ghost use Rattle.table.specs.Places.{countOf, Good};
 ghost use Rattle.locks.specs.Events.{Room};
 ghost use Rattle.list.specs.Lists.{listRules, ServesList};
-ghost use Rattle.list.specs.Posts.{itemAt, outcomeOf, ServesItem, Steps};
+ghost use Rattle.locks.specs.List.{itemAt};
+ghost use Rattle.list.specs.Posts.{outcomeOf, ServesItem, Steps};
 
 // How many bytes a list's event buffer has at least.
 pub const LIST_EVENTS_BYTES: usize = locks::EVENTS + locks::EVENT_BYTES * locks::LIST_EVENTS;

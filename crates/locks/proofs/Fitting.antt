@@ -31,7 +31,7 @@ use Rattle.locks.proofs.Events.{Spared, spare}
 abbrev pub FitEvents : List Event → Type 0
 FitEvents es = Fits (eventLayout width) (map eventFields es)
 
-fit-join : (es fs : List Event) → FitEvents es → FitEvents fs → FitEvents (es ++ fs)
+pub fit-join : (es fs : List Event) → FitEvents es → FitEvents fs → FitEvents (es ++ fs)
 fit-join [] fs p q = q
 fit-join (e ∷ es) fs p q = (p .0, fit-join es fs (p .1) q)
 

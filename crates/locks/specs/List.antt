@@ -3,7 +3,7 @@ use Prim.Native.Nat.{ℕ, _*_}
 use mathlib.Core.Path.{_≡_, refl}
 use mathlib.Core.Bool.{true}
 use mathlib.Core.List.{List, [], _∷_, _++_}
-use lib.ListN.{length}
+use lib.ListN.{length, getD}
 use Rattle.xdr.specs.Array.{arraySize}
 use Rattle.table.specs.Table.{Table, maxRecords}
 use Rattle.locks.specs.declared.Item.{Item}
@@ -13,9 +13,16 @@ use Rattle.locks.specs.Settle.{Event}
 use Rattle.locks.specs.Serve.{Outcome, serve}
 use Rattle.locks.specs.Events.{eventLayout}
 
--- "up to 64 descriptions (client, stripe, mode, first, last)": how many there are at most. "Such a request is marked": the message that one of them is
+-- "up to 64 descriptions (client, stripe, mode, first, last)": how many there are at most, the one at place i, counted from 0, and
+-- the message that one of them is. "Such a request is marked"
 abbrev pub maxItems : ℕ
 maxItems = 64
+
+abbrev pub noItem : Item
+noItem = record { client = 0; stripe = 0; mode = 0; first = 0; last = 0; refusal = 0; handle = 0; events = 0 }
+
+abbrev pub itemAt : List Item → ℕ → Item
+itemAt xs i = getD xs i noItem
 
 abbrev pub requestOf : Item → Message
 requestOf i = Request (i .client) (i .stripe) (i .mode) (i .first) (i .last) true

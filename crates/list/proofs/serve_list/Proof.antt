@@ -58,7 +58,8 @@ use Rattle.serve.specs.declared.Answer.{Answer}
 use Rattle.serve.proofs.Answer as U
 use Rattle.serve.proofs.Answer.Laws as U′
 use Rattle.list.specs.Lists.{listRules, ServesList}
-use Rattle.list.specs.Posts.{itemAt, outcomeOf, Steps}
+use Rattle.locks.specs.List.{itemAt}
+use Rattle.list.specs.Posts.{outcomeOf, Steps}
 use Rattle.list.proofs.Judging.{passed, some-refusal, no-refusal, list-refused}
 use Rattle.list.proofs.Going.{State, begun, within, item-room, end-room, k-most, next, ended}
 use Rattle.list.proofs.Again.{LentAgain, lends-again, comes-back, LentShared, lends-shared, shared-back}

@@ -45,7 +45,8 @@ use Rattle.locks.specs.declared.Item.{Item}
 use Rattle.locks.specs.Events.{Room as Space}
 use Rattle.locks.proofs.Item as T
 use Rattle.locks.proofs.Item.Laws as T′
-use Rattle.list.specs.Posts.{blank, outcomeOf, ServesItem, Steps}
+use Rattle.locks.specs.List.{noItem}
+use Rattle.list.specs.Posts.{outcomeOf, ServesItem, Steps}
 use Rattle.list.proofs.Stepping.{stepped, sum-fits}
 use Rattle.list.proofs.Items.{vals, val, tells, at-vals, typed, events-fit, offset-fits}
 use Rattle.list.proofs.serve_item as serve
@@ -67,7 +68,7 @@ Serve 𝓤 H A mem run = tripleOf 𝓤 H A serve.signature (serve.spec 𝓤 H A 
 module _ {M : Type 1} (𝓤 : URA M) (H : Heap 𝓤) (A : Atoms 𝓤) (W : Given 𝓤 H A) (mem : Memory → SProp 𝓤) (run : Routine → Fun 𝓤) (κ₀ κ₁ κ₂ : Lft) (q₀ q₁ q₂ : Share)
     (b₀ o₀ : ℕ) (γ₀ : GName) (ts : List ℕ) (b₁ o₁ : ℕ) (γ₁ : GName) (es : List ℕ) (b₂ o₂ : ℕ) (γ₂ : GName) (xs : List Item) (i k : ℕ)
     (room₀ : Room u8 (length ts)) (room₁ : Room u8 (length es)) (room₂ : Room T.the-row (length xs)) (i-fits : i < 2 ^ 64) (k-fits : k < 2 ^ 64) (within : i < length xs)
-    (good : Good (countOf ts) ts) (space : Space (k + length (outcomeOf ts (getD xs i blank) .events)) es) where
+    (good : Good (countOf ts) ts) (space : Space (k + length (outcomeOf ts (getD xs i noItem) .events)) es) where
   -- the references passed, and item i
   abbrev t : RefT (List ℕ)
   t = record { ptr = (b₀, o₀); name = γ₀; now = ts }
@@ -79,7 +80,7 @@ module _ {M : Type 1} (𝓤 : URA M) (H : Heap 𝓤) (A : Atoms 𝓤) (W : Given
   it ys = record { ptr = (b₂, o₂); name = γ₂; now = ys }
 
   abbrev x : Item
-  x = getD xs i blank
+  x = getD xs i noItem
 
   -- their machine values
   abbrev s₀ : Val
@@ -151,7 +152,7 @@ module _ {M : Type 1} (𝓤 : URA M) (H : Heap 𝓤) (A : Atoms 𝓤) (W : Given
         rewrite ! 12 (λ (p : ℕ). ‵ (fat fullShare tyPtr l₉ 0 (vptr b₂ p))) (sym (place-is 64 o₂ i)) refl $
         -- the borrow of the items is opened, and item i is taken out of the row
         move ! (33 ∷ []) $ fsplit ! $ move ! (1 ∷ []) $ fsplit ! $ move ! (1 ∷ []) $ fsplit ! $ fsplit ! $ drop ! $ fsplit ! $ move ! (37 ∷ []) $ split ! $ move ! (1 ∷ []) $ split ! $ move ! (1 ∷ []) $ split ! $ move ! (4 ∷ 5 ∷ 0 ∷ []) $
-        opens-slice ! tt T.the-row xs b₂ o₂ $ elem-out ! T.the-row (Is T.the-row) (shows 𝓤 H A T.the-row) vals (LL.tells T.the-type T′.the-laws) fullShare xs i blank b₂ o₂ within (λ was. move ! (6 ∷ []) $ drop ! $ move ! (8 ∷ []) $ drop ! $
+        opens-slice ! tt T.the-row xs b₂ o₂ $ elem-out ! T.the-row (Is T.the-row) (shows 𝓤 H A T.the-row) vals (LL.tells T.the-type T′.the-laws) fullShare xs i noItem b₂ o₂ within (λ was. move ! (6 ∷ []) $ drop ! $ move ! (8 ∷ []) $ drop ! $
         -- [item i; what it owns; the others; the open borrow; obs; auth; the events' token; the table's; the events; the table; _15; …; _0; …]
         assigns ! (of-opd ! (load ! (from ! (hop ! (look ! 22 refl) (stop !))) (look-raw ! 0 refl))) (from ! (stop !)) (init ! 20 refl (typed 𝓤 H A W x was)) $
         assigns ! (of-opd ! (load ! (from ! (stop !)) (look ! 20 refl))) (from ! (stop !)) (init ! 28 refl (typed 𝓤 H A W x was)) $
@@ -194,7 +195,7 @@ module _ {M : Type 1} (𝓤 : URA M) (H : Heap 𝓤) (A : Atoms 𝓤) (W : Given
   step-walks C Λ fm known = walked 𝓤 H A f.ended stayed (f.clauses 𝓤 H A mem run) (WpFn 𝓤 H C Λ code.function)
       (λ κs. (slice-vals, (slice-vals, (slice-vals, (uint-vals w64, (uint-vals w64, tt))))))
       (λ κs. (mut-slice-tells (named 0) (κs .0) u8, (mut-slice-tells (named 1) (κs .1 .0) u8, (mut-slice-tells (named 2) (κs .1 .1 .0) T.the-row, (uint-tells w64, (uint-tells w64, tt))))))
-      (λ κs qs bounds a g are. needs 𝓤 ((a .1 .1 .1 .0 < length (a .1 .1 .0 .now)) × Good (countOf (a .0 .now)) (a .0 .now) × Space (a .1 .1 .1 .1 .0 + length (outcomeOf (a .0 .now) (getD (a .1 .1 .0 .now) (a .1 .1 .1 .0) blank) .events)) (a .1 .0 .now)) _ (λ pre.
+      (λ κs qs bounds a g are. needs 𝓤 ((a .1 .1 .1 .0 < length (a .1 .1 .0 .now)) × Good (countOf (a .0 .now)) (a .0 .now) × Space (a .1 .1 .1 .1 .0 + length (outcomeOf (a .0 .now) (getD (a .1 .1 .0 .now) (a .1 .1 .1 .0) noItem) .events)) (a .1 .0 .now)) _ (λ pre.
       walk 𝓤 H A W mem run (κs .0) (κs .1 .0) (κs .1 .1 .0) (qs .0) (qs .1 .0) (qs .1 .1 .0) (a .0 .ptr .0) (a .0 .ptr .1) (a .0 .name) (a .0 .now) (a .1 .0 .ptr .0) (a .1 .0 .ptr .1) (a .1 .0 .name) (a .1 .0 .now)
       (a .1 .1 .0 .ptr .0) (a .1 .1 .0 .ptr .1) (a .1 .1 .0 .name) (a .1 .1 .0 .now) (a .1 .1 .1 .0) (a .1 .1 .1 .1 .0)
       (are .0 .0 .1) (are .1 .0 .0 .1) (are .1 .1 .0 .0 .1) (are .1 .1 .1 .0 .1) (are .1 .1 .1 .1 .0 .1) (pre .0) (pre .1) (pre .2) C Λ fm known))
