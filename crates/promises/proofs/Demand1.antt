@@ -1,8 +1,10 @@
 -- Demand 1, of all entries together, with an input for each number of each entry's list.
 use Prim.Native.Nat.{ℕ}
-use mathlib.Core.Bool.{false}
+use native.Mathlib.Omega.{arith}
+use mathlib.Core.Bool.{true, false}
 use mathlib.Core.List.{List, [], _∷_, map}
 use mathlib.Core.Path.{_≡_, refl}
+use lib.Dec.{T}
 use lib.ListN.{replicate}
 use Rattle.common.specs.Counters.{width}
 use Rattle.common.specs.Refusals.{firstHit}
@@ -10,21 +12,26 @@ use Rattle.common.proofs.Blank.{blank-bytes}
 use Rattle.xdr.specs.Be.{Bytes}
 use Rattle.xdr.proofs.Arrays.{put-array-bytes}
 use Rattle.table.specs.Table.{Table, empty, maxRecords}
+use Rattle.table.specs.Sound.{sound}
 use Rattle.table.proofs.Encoding.{tableBytes, table-bytes}
+use Rattle.table.proofs.Zeros.{empty-sound}
 use Rattle.runs.specs.declared.Run.{Run}
 use Rattle.runs.specs.Sound.{maxEntries}
 use Rattle.runs.specs.Bytes.{runLayout, runFields, mapSize, logSize, bytesOf, mapBytes}
+use Rattle.locks.specs.declared.Item.{Item}
 use Rattle.locks.specs.declared.Message.{Message}
 use Rattle.locks.specs.declared.Message.the-variants.{Request, Acknowledge, Downgrade, Release}
 use Rattle.locks.specs.Refusals.{rules}
 use Rattle.locks.specs.Events.{eventsSize}
+use Rattle.locks.specs.List.{noItem, requestOf, listEventsSize}
 use Rattle.message.specs.Messages.{outcome}
 use Rattle.stripe.specs.Piece.{extent, piece}
-use Rattle.promises.specs.Demand1.{Entry, request, acknowledge, downgrade, release, note, write, restart, numbers, entryOf}
-use Rattle.promises.specs.Demand1.{Words, fields, Gets, message, noting, writing, restarting, Reached, Demand1}
-use Rattle.promises.proofs.Determined.{of-message, of-note, of-write, of-restart}
+use Rattle.promises.specs.Demand1.{Entry, request, acknowledge, downgrade, release, list, note, write, restart, numbers, entryOf}
+use Rattle.promises.specs.Demand1.{Words, fields, itemWords, Gets, message, listing, noting, writing, restarting, Reached, ItemGets, ItemsReached, Demand1}
+use Rattle.promises.proofs.Determined.{of-message, of-list, of-note, of-write, of-restart}
 use Rattle.promises.proofs.Spaced.{spaced}
-use Rattle.promises.proofs.Reached.{buffer, no-events, another-length, on-empty, spent, none-left, queued, no-room, single, on-single}
+use Rattle.promises.proofs.Reached.{buffer, no-events, another-length, on-empty, spent, spent-sound, none-left, queued, queued-sound, crowded, no-room, single, on-single}
+use Rattle.promises.proofs.Reached.{list-buffer, list-no-events, list-no-table, too-many, lets-through, item-gets}
 use Rattle.promises.proofs.StripeReached.{map0, log0, one, logged, note-12, note-13, note-14, note-15, note-16, note-17, write-12, write-14, write-15, write-18, restart-12, restart-13, restart-16}
 
 -- one input after the other
@@ -104,6 +111,11 @@ reached release =
     also first (Release 0 1) tt 9 refl
     also lone (Release 1 1) tt 10 refl
     also tt
+reached list =
+    listing [] [] [] tt no-bytes no-bytes list-no-events
+    also listing [] [] list-buffer tt no-bytes (blank-bytes (listEventsSize width)) list-no-table
+    also listing (replicate 65 noItem) (tableBytes empty) list-buffer tt (table-bytes empty) (blank-bytes (listEventsSize width)) (too-many empty empty-sound (replicate 65 noItem) (omega arith))
+    also tt
 reached note =
     noting [] [] (extent 0 1 1) 1 tt no-bytes no-bytes note-12
     also noting map0 [] (extent 0 1 1) 1 tt map0-bytes no-bytes note-13
@@ -124,5 +136,34 @@ reached restart =
     also restarting map0 (logged (spaced 1 1025)) map0-bytes (logged-bytes (spaced 1 1025)) restart-16
     also tt
 
+-- A list of one item on a table
+item : (X : Table) → T (sound X) → (x : Item) → Words (itemWords (x ∷ [])) → (n : ℕ) → firstHit (rules X (requestOf x)) ≡ n → ItemGets n
+item X s x f n e = record {
+  items = x ∷ [];
+  k = 0;
+  table = tableBytes X;
+  events = list-buffer;
+  inside = omega arith;
+  words = f;
+  table-bytes = table-bytes X;
+  event-bytes = blank-bytes (listEventsSize width);
+  accepted = lets-through X s (x ∷ []) (omega arith);
+  gets = item-gets X s x n e;
+}
+
+abbrev asking : ℕ → ℕ → ℕ → ℕ → ℕ → Item
+asking c s m f l = record { client = c; stripe = s; mode = m; first = f; last = l; refusal = 0; handle = 0; events = 0 }
+
+items-reached : ItemsReached (3 ∷ 4 ∷ 5 ∷ 6 ∷ 7 ∷ 8 ∷ [])
+unfolding rules
+items-reached =
+    item empty empty-sound (asking 64 0 1 0 0) tt 3 refl
+    also item empty empty-sound (asking 0 16 1 0 0) tt 4 refl
+    also item empty empty-sound (asking 0 0 5 0 0) tt 5 refl
+    also item empty empty-sound (asking 0 0 1 5 4) tt 6 refl
+    also item spent spent-sound (asking 0 0 1 0 0) tt 7 refl
+    also item (queued maxRecords) (queued-sound maxRecords (omega arith)) (asking 0 0 1 0 0) tt 8 (crowded maxRecords true refl)
+    also tt
+
 pub demand1 : Demand1
-demand1 = record { messages = of-message; notes = of-note; writes = of-write; restarts = of-restart; reached = reached }
+demand1 = record { messages = of-message; lists = of-list; notes = of-note; writes = of-write; restarts = of-restart; reached = reached; items-reached = items-reached }

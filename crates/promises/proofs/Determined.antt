@@ -1,104 +1,140 @@
--- Demand 1 of each entry at any input. A message: what it leaves is the encoded table where it is accepted, and a table has one spelling in bytes.
+-- Demand 1 of each entry at any input. A message, and a list: what it leaves is the encoded table where it is accepted, and a table has one spelling in bytes.
 -- Note, write and restart: their contracts are equations.
 use Prim.Native.Nat.{ℕ}
 use mathlib.Core.Bool.{Bool, true, false, cond}
 use mathlib.Core.List.{List, _++_}
 use mathlib.Core.Logic.{_⊎_, inl, inr}
 use mathlib.Core.Path.{_≡_, refl, sym, ap, subst, _∙_}
-use lib.Dec.{eqb}
+use lib.Dec.{T, eqb}
 use lib.ListN.{length}
 use borrow.Author.Tests.{ne-eqb}
 use Rattle.common.specs.Counters.{width}
 use Rattle.common.proofs.Bools.{by-cond, cond-true, cond-false}
 use Rattle.xdr.specs.Be.{Bytes}
+use Rattle.table.specs.Sound.{sound}
 use Rattle.table.specs.Bytes.{tableOf}
 use Rattle.table.specs.Places.{Holds}
 use Rattle.table.proofs.Unique.{holds-unique}
 use Rattle.table.proofs.Encoding.{tableBytes, table-bytes, table-held}
 use Rattle.table.proofs.Fitting.{sound-fits}
+use Rattle.locks.specs.declared.Item.{Item}
 use Rattle.locks.specs.declared.Message.{Message}
 use Rattle.locks.specs.Refusals.{rules}
-use Rattle.locks.specs.Serve.{Outcome, refused}
+use Rattle.locks.specs.Serve.{Outcome}
 use Rattle.locks.specs.Events.{eventsOver}
 use Rattle.serve.specs.declared.Answer.{Answer}
-use Rattle.message.specs.Messages.{entryRules, outcome, Serves}
+use Rattle.serve.specs.Leaves.{Leaves}
+use Rattle.message.specs.Messages.{entryRules, outcome}
+use Rattle.list.specs.Lists.{listRules, listRefusal, listOutcome, listItems, ServesList}
 use Rattle.stripe.specs.declared.Extent.{Extent}
 use Rattle.stripe.specs.Piece.{Piece, extentOf}
 use Rattle.note.specs.Note.{noteAnswer, noteMap, noteLog}
 use Rattle.write.specs.Write.{writeAnswer, writeImage}
 use Rattle.restart.specs.Restart.{restartAnswer, restartMap}
-use Rattle.promises.specs.Demand1.{Judged, Served, OfMessage, OfNote, OfWrite, OfRestart}
-use Rattle.promises.proofs.Outcomes.{judged, outcome-hit, outcome-alone, outcome-sound, outcome-listed}
+use Rattle.promises.specs.Demand1.{Judged, Served, ListServed, OfMessage, OfList, OfNote, OfWrite, OfRestart}
+use Rattle.promises.proofs.Outcomes.{judged, Alone, outcome-hit, outcome-alone, outcome-sound, outcome-listed}
+use Rattle.promises.proofs.Lists.{list-hit, list-alone, list-leaves-sound, list-listed, items-stay}
 use Rattle.promises.proofs.StripeRefusals.{note-listed, write-listed, restart-listed, note-refused, write-refused, restart-refused}
 
-abbrev Meets : Message → List ℕ → List ℕ → Served → Type 0
-Meets m t b x = Serves m t b (x .answer) (x .table) (x .events) × Bytes (x .table)
+-- What a call on the lock table leaves, by its outcome o
+abbrev Meets : Outcome → List ℕ → List ℕ → Served → Type 0
+Meets o t b x = Leaves o t b (x .answer) (x .table) (x .events) × Bytes (x .table)
 
-module _ (m : Message) (t b : List ℕ) where
+module _ (o : Outcome) (t b : List ℕ) where
   -- the table's bytes after the call
   after : List ℕ
-  after = cond (eqb (outcome m t b .refusal) 0) (tableBytes (outcome m t b .table)) t
+  after = cond (eqb (o .refusal) 0) (tableBytes (o .table)) t
 
   left : Served
   left = record {
-    answer = record { refusal = outcome m t b .refusal; handle = outcome m t b .handle; events = length (outcome m t b .events) };
+    answer = record { refusal = o .refusal; handle = o .handle; events = length (o .events) };
     table = after;
-    events = cond (eqb (outcome m t b .refusal) 0) (eventsOver width b (outcome m t b .events)) b;
+    events = cond (eqb (o .refusal) 0) (eventsOver width b (o .events)) b;
   }
 
-  left-meets : Bytes t → Meets m t b left
+  left-meets : (T (eqb (o .refusal) 0) → T (sound (o .table))) → Bytes t → Meets o t b left
   unfolding left after
-  left-meets h = (
+  left-meets s h = (
     record {
       answer = refl;
-      same = λ e. cond-false (eqb (outcome m t b .refusal) 0) (tableBytes (outcome m t b .table)) t e;
+      same = λ e. cond-false (eqb (o .refusal) 0) (tableBytes (o .table)) t e;
       table = λ e.
-          subst (λ (u : List ℕ). Holds (length (outcome m t b .table .locks)) (outcome m t b .table) u)
-          (sym (cond-true (eqb (outcome m t b .refusal) 0) (tableBytes (outcome m t b .table)) t e))
-          (table-held (outcome m t b .table) (sound-fits (outcome m t b .table) (outcome-sound m t b e)));
+          subst (λ (u : List ℕ). Holds (length (o .table .locks)) (o .table) u)
+          (sym (cond-true (eqb (o .refusal) 0) (tableBytes (o .table)) t e))
+          (table-held (o .table) (sound-fits (o .table) (s e)));
       events = refl;
     },
-    by-cond Bytes (eqb (outcome m t b .refusal) 0) (tableBytes (outcome m t b .table)) t (λ e. table-bytes (outcome m t b .table)) (λ e. h),
+    by-cond Bytes (eqb (o .refusal) 0) (tableBytes (o .table)) t (λ e. table-bytes (o .table)) (λ e. h),
   )
 
-  one : (x y : Served) → Meets m t b x → Meets m t b y → x ≡ y
-  one x y p q = λ i. record { answer = (p .0 .answer ∙ sym (q .0 .answer)) i; table = go (eqb (outcome m t b .refusal) 0) refl i; events = (p .0 .events ∙ sym (q .0 .events)) i }
+  one : (x y : Served) → Meets o t b x → Meets o t b y → x ≡ y
+  one x y p q = λ i. record { answer = (p .0 .answer ∙ sym (q .0 .answer)) i; table = go (eqb (o .refusal) 0) refl i; events = (p .0 .events ∙ sym (q .0 .events)) i }
     where
-      go : (z : Bool) → eqb (outcome m t b .refusal) 0 ≡ z → x .table ≡ y .table
+      go : (z : Bool) → eqb (o .refusal) 0 ≡ z → x .table ≡ y .table
       go true e =
-          let n : ℕ = length (outcome m t b .table .locks) in
-          holds-unique n n (outcome m t b .table) (x .table) (y .table) (p .0 .table (rw e tt)) (q .0 .table (rw e tt)) (p .1) (q .1)
+          let n : ℕ = length (o .table .locks) in
+          holds-unique n n (o .table) (x .table) (y .table) (p .0 .table (rw e tt)) (q .0 .table (rw e tt)) (p .1) (q .1)
       go false e = p .0 .same (rw e tt) ∙ sym (q .0 .same (rw e tt))
 
   -- the number of what meets the contract
-  number : (x : Served) → Meets m t b x → x .answer .refusal ≡ outcome m t b .refusal
+  number : (x : Served) → Meets o t b x → x .answer .refusal ≡ o .refusal
   number x p = ap (λ (a : Answer). a .refusal) (p .0 .answer)
 
-  alone : (x : Served) → Meets m t b x → (x .answer .refusal ≡ 0 → ⊥) → x ≡ record { answer = record { refusal = x .answer .refusal; handle = 0; events = 0 }; table = t; events = b }
-  alone x p n = go (outcome-alone m t b)
+  alone : Alone (tableOf width t) o → (x : Served) → Meets o t b x → (x .answer .refusal ≡ 0 → ⊥) → x ≡ record { answer = record { refusal = x .answer .refusal; handle = 0; events = 0 }; table = t; events = b }
+  alone a x p n = go a
     where
-      z : eqb (outcome m t b .refusal) 0 ≡ false
-      z = ne-eqb (outcome m t b .refusal) 0 (λ e. n (number x p ∙ e))
+      z : eqb (o .refusal) 0 ≡ false
+      z = ne-eqb (o .refusal) 0 (λ e. n (number x p ∙ e))
 
-      go : (outcome m t b .refusal ≡ 0) ⊎ (outcome m t b ≡ refused (tableOf width t) (outcome m t b .refusal)) → x ≡ record { answer = record { refusal = x .answer .refusal; handle = 0; events = 0 }; table = t; events = b }
+      go : Alone (tableOf width t) o → x ≡ record { answer = record { refusal = x .answer .refusal; handle = 0; events = 0 }; table = t; events = b }
       go (inl e) = absurd (n (number x p ∙ e))
       go (inr e) = λ i. record {
         answer = (p .0 .answer
             ∙ ap (λ (k : Outcome). record { refusal = k .refusal; handle = k .handle; events = length (k .events) }) e
             ∙ ap (λ (k : ℕ). record { refusal = k; handle = 0; events = 0 }) (sym (number x p))) i;
         table = p .0 .same (rw z tt) i;
-        events = (p .0 .events ∙ ap (λ (k : Bool). cond k (eventsOver width b (outcome m t b .events)) b) z) i;
+        events = (p .0 .events ∙ ap (λ (k : Bool). cond k (eventsOver width b (o .events)) b) z) i;
       }
 
-  pub of-message : Bytes t → OfMessage m t b
-  of-message h = record {
-    some = left;
-    meets = left-meets h;
-    only = one;
-    listed = λ x p. rw (number x p) (outcome-listed m t b);
-    judged = λ x p. subst (Judged (entryRules t b ++ rules (tableOf width t) m)) (sym (number x p ∙ outcome-hit m t b)) (judged (entryRules t b ++ rules (tableOf width t) m));
-    unchanged = alone;
-  }
+pub of-message : (m : Message) (t b : List ℕ) → Bytes t → OfMessage m t b
+of-message m t b h =
+    let o : Outcome = outcome m t b in
+    record {
+      some = left o t b;
+      meets = left-meets o t b (outcome-sound m t b) h;
+      only = one o t b;
+      listed = λ x p. rw (number o t b x p) (outcome-listed m t b);
+      judged = λ x p. subst (Judged (entryRules t b ++ rules (tableOf width t) m)) (sym (number o t b x p ∙ outcome-hit m t b)) (judged (entryRules t b ++ rules (tableOf width t) m));
+      unchanged = alone o t b (outcome-alone m t b);
+    }
+
+pub of-list : (xs : List Item) (t b : List ℕ) → Bytes t → OfList xs t b
+of-list xs t b h =
+    record {
+      some = with (left o t b) (listItems xs t b);
+      meets = (record { call = L .0; items = refl }, L .1);
+      only = λ x y p q i.
+          let e = one o t b (served x) (served y) (p .0 .call, p .1) (q .0 .call, q .1) in
+          with (e i) ((p .0 .items ∙ sym (q .0 .items)) i);
+      listed = λ x p. rw (its x p) (list-listed xs t b);
+      judged = λ x p. rw (its x p) (judged (listRules t (length b) (length xs)));
+      unchanged = λ x p n i. with (alone o t b (list-alone xs t b) (served x) (p .0 .call, p .1) n i) ((p .0 .items ∙ items-stay xs t b (λ e. n (its x p ∙ e))) i);
+    }
+  where
+    o : Outcome
+    o = listOutcome xs t b
+
+    L : Meets (listOutcome xs t b) t b (left (listOutcome xs t b) t b)
+    L = left-meets (listOutcome xs t b) t b (list-leaves-sound xs t b) h
+
+    served : ListServed → Served
+    served x = record { answer = x .answer; table = x .table; events = x .events }
+
+    with : Served → List Item → ListServed
+    with x ys = record { answer = x .answer; items = ys; table = x .table; events = x .events }
+
+    its : (x : ListServed) → ServesList xs t b (x .answer) (x .items) (x .table) (x .events) × Bytes (x .table) → x .answer .refusal ≡ listRefusal xs t b
+    its x p = ap (λ (a : Answer). a .refusal) (p .0 .call .answer) ∙ list-hit xs t b
 
 pub of-note : (m l : List ℕ) (e : Extent) (i : ℕ) → OfNote m l e i
 unfolding noteAnswer

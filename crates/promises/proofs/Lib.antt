@@ -1,4 +1,5 @@
 pub mod Outcomes
+pub mod Lists
 pub mod Spaced
 pub mod StripeRefusals
 pub mod StripeReached

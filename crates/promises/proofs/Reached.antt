@@ -1,9 +1,9 @@
 -- No refusal of a message is dead: for each of 1 to 11 a table in bytes and a message that get it. The thought: a sound table has bytes, and of these
 -- bytes the message's number is the first hit of its own list.
-use Prim.Native.Nat.{ℕ, zero, suc, _+_, _≤_}
+use Prim.Native.Nat.{ℕ, zero, suc, _+_, _≤_, _<_}
 use native.Mathlib.Omega.{arith}
 use native.Mathlib.Numerals.{add-one}
-use mathlib.Core.Bool.{false}
+use mathlib.Core.Bool.{Bool, true, false}
 use mathlib.Core.List.{List, [], _∷_, _++_}
 use mathlib.Core.Path.{_≡_, refl, ap, subst, _∙_}
 use lib.Dec.{T}
@@ -19,14 +19,18 @@ use Rattle.table.proofs.Facts.{Sound, sound→, →sound}
 use Rattle.table.proofs.Encoding.{tableBytes, table-held}
 use Rattle.table.proofs.Fitting.{sound-fits}
 use Rattle.table.proofs.Zeros.{holds-sound, empty-sound}
+use Rattle.locks.specs.declared.Item.{Item}
 use Rattle.locks.specs.declared.Message.{Message}
 use Rattle.locks.specs.declared.Message.the-variants.{Request}
 use Rattle.locks.specs.Refusals.{rules}
 use Rattle.locks.specs.Serve.{Outcome, asking, serve}
 use Rattle.locks.specs.Events.{eventsSize}
+use Rattle.locks.specs.List.{maxItems, itemAt, requestOf, serveList, listEventsSize}
 use Rattle.locks.proofs.Served.{asked}
 use Rattle.message.specs.Messages.{outcome}
+use Rattle.list.specs.Lists.{listRefusal, listItems}
 use Rattle.promises.proofs.Outcomes.{served-hit}
+use Rattle.promises.proofs.Lists.{list-unsound, list-crowded, list-accepted, items-are}
 use Rattle.promises.proofs.Sessions.{outcome-is}
 
 abbrev pub buffer : List ℕ
@@ -34,6 +38,12 @@ buffer = replicate (eventsSize width) 0
 
 pub buffer-long : length buffer ≡ eventsSize width
 buffer-long = length-replicate {A = ℕ} (eventsSize width) 0
+
+abbrev pub list-buffer : List ℕ
+list-buffer = replicate (listEventsSize width) 0
+
+pub list-buffer-long : length list-buffer ≡ listEventsSize width
+list-buffer-long = length-replicate {A = ℕ} (listEventsSize width) 0
 
 -- the message's own list decides
 pub gets-own : (X : Table) (m : Message) → T (sound X) → outcome m (tableBytes X) buffer .refusal ≡ firstHit (rules X m)
@@ -63,7 +73,7 @@ on-empty m n e = gets-own empty m empty-sound ∙ e
 abbrev pub spent : Table
 spent = record { issued = 4294967295; lasts = replicate stripeCount 0; locks = [] }
 
-spent-sound : T (sound spent)
+pub spent-sound : T (sound spent)
 unfolding sound room
 spent-sound = tt
 
@@ -92,14 +102,41 @@ module _ (n : ℕ) where
   pub queued : Table
   queued = record { issued = n; lasts = replicate stripeCount 0; locks = queue n }
 
-  crowded : n ≡ maxRecords → outcome (Request 0 0 1 0 0 false) (tableBytes queued) buffer .refusal ≡ 8
+  pub queued-sound : n ≤ maxRecords → T (sound queued)
+  unfolding queued
+  queued-sound h = →sound queued (queue-sound n h)
+
+  pub crowded : (k : Bool) → n ≡ maxRecords → firstHit (rules queued (Request 0 0 1 0 0 k)) ≡ 8
   unfolding rules queued
-  crowded e =
-      gets-own queued (Request 0 0 1 0 0 false) (→sound queued (queue-sound n (omega arith)))
-      ∙ rw (queue-long n, le-leb maxRecords n (omega arith), e)
+  crowded k e = rw (queue-long n, le-leb maxRecords n (omega arith), e)
 
 pub no-room : outcome (Request 0 0 1 0 0 false) (tableBytes (queued maxRecords)) buffer .refusal ≡ 8
-no-room = crowded maxRecords refl
+no-room = gets-own (queued maxRecords) (Request 0 0 1 0 0 false) (queued-sound maxRecords (omega arith)) ∙ crowded maxRecords false refl
+
+-- Of a list: 1, 2 and 19, and each number of an item on the same tables
+pub list-no-events : listRefusal [] [] [] ≡ 1
+list-no-events = refl
+
+pub list-no-table : listRefusal [] [] list-buffer ≡ 2
+unfolding soundTableBytes
+list-no-table = list-unsound [] [] list-buffer (let e = list-buffer-long in omega arith) refl
+
+-- the table X in bytes, and its list
+module _ (X : Table) (s : T (sound X)) (xs : List Item) where
+  sounds : soundTableBytes (tableBytes X) ≡ true
+  sounds = holds-sound (length (X .locks)) X (tableBytes X) (table-held X (sound-fits X s)) s
+
+  pub too-many : maxItems < length xs → listRefusal xs (tableBytes X) list-buffer ≡ 19
+  too-many h = list-crowded xs (tableBytes X) list-buffer (let e = list-buffer-long in omega arith) sounds h
+
+  pub lets-through : length xs ≤ maxItems → listRefusal xs (tableBytes X) list-buffer ≡ 0
+  lets-through h = list-accepted xs (tableBytes X) list-buffer sounds h (let e = list-buffer-long in omega arith)
+
+pub item-gets : (X : Table) (s : T (sound X)) (x : Item) (n : ℕ) → firstHit (rules X (requestOf x)) ≡ n → itemAt (listItems (x ∷ []) (tableBytes X) list-buffer) 0 .refusal ≡ n
+unfolding serveList
+item-gets X s x n e =
+    ap (λ (l : List Item). itemAt l 0 .refusal) (items-are (x ∷ []) (tableBytes X) list-buffer (sounds X s (x ∷ [])) (omega arith) (let l = list-buffer-long in omega arith))
+    ∙ ap (λ (Y : Table). serve Y (requestOf x) .refusal) (table-held X (sound-fits X s) .says) ∙ served-hit X (requestOf x) ∙ e
 
 -- 10 and 11 on a table of one lock in state 1
 abbrev pub single : Table

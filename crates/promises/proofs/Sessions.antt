@@ -1,7 +1,7 @@
 -- Demand 2: a session on bytes is a session of the rules, call by call, and its table stays sound. The thought: a call's bytes decode to the rules' table.
 use Prim.Native.Nat.{ℕ, _≤_}
 use mathlib.Core.Bool.{Bool, true, false, cond}
-use mathlib.Core.List.{List, _++_}
+use mathlib.Core.List.{List, _++_, map}
 use mathlib.Core.Path.{_≡_, refl, sym, ap, ap₂, subst, _∙_}
 use lib.Dec.{T, eqb}
 use lib.ListN.{length}
@@ -12,17 +12,22 @@ use Rattle.table.specs.Table.{Table}
 use Rattle.table.specs.Sound.{sound}
 use Rattle.table.specs.Bytes.{tableOf, soundTableBytes}
 use Rattle.table.proofs.Zeros.{bytes-sound, holds-sound}
+use Rattle.locks.specs.declared.Item.{Item}
 use Rattle.locks.specs.declared.Message.{Message}
 use Rattle.locks.specs.Settle.{Event, settle}
 use Rattle.locks.specs.Refusals.{refusal}
 use Rattle.locks.specs.Serve.{Outcome, change, answered, accepted, refused, serve}
 use Rattle.locks.specs.Session.{tableAfter, events}
 use Rattle.locks.specs.Events.{eventsSize}
+use Rattle.locks.specs.List.{maxItems, requestOf, serveList, listEventsSize}
 use Rattle.locks.proofs.Served.{serve-sound}
+use Rattle.locks.proofs.Lists.{list-table, list-events, list-sound, after-then, events-then}
 use Rattle.serve.specs.declared.Answer.{Answer}
 use Rattle.serve.specs.Leaves.{Leaves}
 use Rattle.message.specs.Messages.{outcome, Serves}
-use Rattle.promises.specs.Session.{Session, done, call}
+use Rattle.list.specs.Lists.{acceptedList, ServesList}
+use Rattle.promises.specs.Session.{Session, done, call, list}
+use Rattle.promises.proofs.Lists.{list-is}
 
 -- Of sound bytes the outcome is the rules'
 module _ (m : Message) (t b : List ℕ) (s : soundTableBytes t ≡ true) (h : eventsSize width ≤ length b) where
@@ -61,15 +66,35 @@ follows m t b r u c s h L = go (eqb (o .refusal) 0) refl
         let same : u ≡ t = K .same (rw e tt) in
         record { says = ap (tableOf width) same ∙ sym (refused-same (tableOf width t) m e); sound = ap soundTableBytes same ∙ s }
 
+-- After a list
+pub list-follows : (xs : List Item) (t b : List ℕ) (r : Answer) (ys : List Item) (u c : List ℕ) → soundTableBytes t ≡ true → length xs ≤ maxItems → listEventsSize width ≤ length b
+    → ServesList xs t b r ys u c → Follows (tableAfter (tableOf width t) (map requestOf xs)) u
+list-follows xs t b r ys u c s few room L =
+    let X : Table = tableOf width t in
+    let K : Leaves (acceptedList (serveList X xs)) t b r u c = subst (λ (o : Outcome). Leaves o t b r u c) (list-is xs t b s few room) (L .call) in
+    let H = K .table tt in
+    record {
+      says = H .says ∙ list-table X xs;
+      sound = holds-sound (length (serveList X xs .table .locks)) (serveList X xs .table) u H (list-sound X xs (bytes-sound t s));
+    }
+
 -- A session of the entries is one of the rules
 pub session-follows : {t v : List ℕ} {ms : List Message} {es : List Event} → Session t ms es v → soundTableBytes t ≡ true → Follows (tableAfter (tableOf width t) ms) v
 session-follows done s = record { says = refl; sound = s }
-session-follows (call {t = t} {u = u} {v = v} {b = b} {c = c} {m = m} {ms = ms} {r = r} h L S) s =
+session-follows (call {t = t} {u = u} {v = v} {b = b} {c = c} {m = m} {ms = ms} {r = r} i h L S) s =
     let F = follows m t b r u c s h L in
     subst (λ (x : Table). Follows (tableAfter x ms) v) (F .says) (session-follows S (F .sound))
+session-follows (list {t = t} {u = u} {v = v} {b = b} {c = c} {xs = xs} {ys = ys} {ms = ms} {r = r} i h L S) s =
+    let F = list-follows xs t b r ys u c s i h L in
+    subst (λ (x : Table). Follows x v) (ap (λ (x : Table). tableAfter x ms) (F .says) ∙ sym (after-then (tableOf width t) (map requestOf xs) ms)) (session-follows S (F .sound))
 
 pub session-events : {t v : List ℕ} {ms : List Message} {es : List Event} → Session t ms es v → soundTableBytes t ≡ true → es ≡ events (tableOf width t) ms
 session-events done s = refl
-session-events (call {t = t} {u = u} {b = b} {c = c} {m = m} {ms = ms} {r = r} {es = es} h L S) s =
+session-events (call {t = t} {u = u} {b = b} {c = c} {m = m} {ms = ms} {r = r} {es = es} i h L S) s =
     let F = follows m t b r u c s h L in
     ap₂ (λ (x y : List Event). x ++ y) (ap (λ (o : Outcome). o .events) (outcome-is m t b s h)) (session-events S (F .sound) ∙ ap (λ (x : Table). events x ms) (F .says))
+session-events (list {t = t} {u = u} {b = b} {c = c} {xs = xs} {ys = ys} {ms = ms} {r = r} {es = es} i h L S) s =
+    let X : Table = tableOf width t in
+    let F = list-follows xs t b r ys u c s i h L in
+    ap₂ (λ (x y : List Event). x ++ y) (ap (λ (o : Outcome). o .events) (list-is xs t b s i h) ∙ list-events X xs) (session-events S (F .sound) ∙ ap (λ (x : Table). events x ms) (F .says))
+    ∙ sym (events-then X (map requestOf xs) ms)

@@ -1,6 +1,6 @@
 -- DEMAND 1, for each public entry. "For every input there is an outcome, the contract allows only one, a refusal's answer is (number, 0, 0) or the
--- number alone, from the list, the first hit in the stated order, and leaves every buffer as it was. For each number 1 to 18 an input that gets it."
-use Prim.Native.Nat.{ℕ, _^_}
+-- number alone, from the list, the first hit in the stated order, and leaves every buffer as it was. For each number 1 to 19 an input that gets it."
+use Prim.Native.Nat.{ℕ, _^_, _<_}
 use mathlib.Core.Path.{_≡_}
 use mathlib.Core.Bool.{Bool, not}
 use mathlib.Core.Logic.{_⊎_}
@@ -12,15 +12,18 @@ use Rattle.common.specs.Refusals.{Rule}
 use Rattle.common.specs.Tests.{all, any}
 use Rattle.xdr.specs.Be.{Bytes}
 use Rattle.table.specs.Bytes.{tableOf}
+use Rattle.locks.specs.declared.Item.{Item}
 use Rattle.locks.specs.declared.Message.{Message}
 use Rattle.locks.specs.declared.Message.the-variants.{Request, Acknowledge, Downgrade, Release}
 use Rattle.locks.specs.Refusals.{rules}
+use Rattle.locks.specs.List.{itemAt}
 use Rattle.runs.specs.Bytes.{runsOf, mapSize, soundMapBytes, soundLogBytes}
 use Rattle.stripe.specs.declared.Extent.{Extent}
 use Rattle.stripe.specs.Piece.{Piece, extentOf}
 use Rattle.stripe.specs.Refusals.{writeRules, restartRules}
 use Rattle.serve.specs.declared.Answer.{Answer}
 use Rattle.message.specs.Messages.{entryRules, outcome, Serves}
+use Rattle.list.specs.Lists.{listRules, listRefusal, listItems, ServesList}
 use Rattle.note.specs.Note.{noteList, noteAnswer, Notes}
 use Rattle.write.specs.Write.{writeAnswer, Writes}
 use Rattle.restart.specs.Restart.{restartAnswer, Restarts}
@@ -62,6 +65,12 @@ pub record Served : Type 0 where
   pub table : List ℕ
   pub events : List ℕ
 
+pub record ListServed : Type 0 where
+  pub answer : Answer
+  pub items : List Item
+  pub table : List ℕ
+  pub events : List ℕ
+
 pub record Noted : Type 0 where
   pub answer : ℕ
   pub map : List ℕ
@@ -76,12 +85,13 @@ pub record Restarted : Type 0 where
   pub map : List ℕ
 
 -- "Order, first hit answers: request 1 to 8; the others 1, 2, 3, 9, 10, 11; note 12 to 17; write 12, 14, 15, 18; restart 12 (length only), 13, 16."
--- A release has nothing that 11 could say
+-- A release has nothing that 11 could say. A list: "1 (at its new size), 2, then 19"
 pub data Entry : Type 0 where
   request : Entry
   acknowledge : Entry
   downgrade : Entry
   release : Entry
+  list : Entry
   note : Entry
   write : Entry
   restart : Entry
@@ -91,6 +101,7 @@ numbers request = 1 ∷ 2 ∷ 3 ∷ 4 ∷ 5 ∷ 6 ∷ 7 ∷ 8 ∷ []
 numbers acknowledge = 1 ∷ 2 ∷ 3 ∷ 9 ∷ 10 ∷ 11 ∷ []
 numbers downgrade = 1 ∷ 2 ∷ 3 ∷ 9 ∷ 10 ∷ 11 ∷ []
 numbers release = 1 ∷ 2 ∷ 3 ∷ 9 ∷ 10 ∷ []
+numbers list = 1 ∷ 2 ∷ 19 ∷ []
 numbers note = 12 ∷ 13 ∷ 14 ∷ 15 ∷ 16 ∷ 17 ∷ []
 numbers write = 12 ∷ 14 ∷ 15 ∷ 18 ∷ []
 numbers restart = 12 ∷ 13 ∷ 16 ∷ []
@@ -109,6 +120,15 @@ OfMessage m table events =
     (λ x. x .answer .refusal)
     (entryRules table events ++ rules (tableOf width table) m) (numbers (entryOf m))
     (λ n. record { answer = record { refusal = n; handle = 0; events = 0 }; table = table; events = events })
+
+-- A list of requests
+abbrev pub OfList : List Item → List ℕ → List ℕ → Type 0
+OfList items table events =
+    Promised {R = ListServed}
+    (λ x. ServesList items table events (x .answer) (x .items) (x .table) (x .events) × Bytes (x .table))
+    (λ x. x .answer .refusal)
+    (listRules table (length events) (length items)) (numbers list)
+    (λ n. record { answer = record { refusal = n; handle = 0; events = 0 }; items = items; table = table; events = events })
 
 -- Note, write and restart
 abbrev pub OfNote : List ℕ → List ℕ → Extent → ℕ → Type 0
@@ -145,10 +165,16 @@ fields (Acknowledge c h) = c ∷ h ∷ []
 fields (Downgrade c h) = c ∷ h ∷ []
 fields (Release c h) = c ∷ h ∷ []
 
+abbrev pub itemWords : List Item → List ℕ
+itemWords [] = []
+itemWords (i ∷ is) = i .client ∷ i .stripe ∷ i .mode ∷ i .first ∷ i .last ∷ i .refusal ∷ i .handle ∷ i .events ∷ itemWords is
+
 -- An input of the entry that gets the number n: 64-bit numbers, and buffers of bytes
 pub data Gets : Entry → ℕ → Type 0 where
   message : {n : ℕ} (m : Message) (table events : List ℕ)
       → Words (fields m) → Bytes table → Bytes events → outcome m table events .refusal ≡ n → Gets (entryOf m) n
+  listing : {n : ℕ} (items : List Item) (table events : List ℕ)
+      → Words (itemWords items) → Bytes table → Bytes events → listRefusal items table events ≡ n → Gets list n
   noting : {n : ℕ} (map log : List ℕ) (e : Extent) (image : ℕ)
       → Words (e .first ∷ e .len ∷ e .number .0 ∷ image ∷ []) → Bytes map → Bytes log → noteAnswer map log e image ≡ n → Gets note n
   writing : {n : ℕ} (map : List ℕ) (p : Piece) (image : List ℕ)
@@ -159,10 +185,29 @@ abbrev pub Reached : Entry → List ℕ → Type 0
 Reached e [] = Unit {0}
 Reached e (n ∷ ns) = Gets e n × Reached e ns
 
+-- "the rest go into each description": an accepted list that stores the number n in the item at place k
+pub record ItemGets (n : ℕ) : Type 0 where
+  pub items : List Item
+  pub k : ℕ
+  pub table : List ℕ
+  pub events : List ℕ
+  pub inside : k < length items
+  pub words : Words (itemWords items)
+  pub table-bytes : Bytes table
+  pub event-bytes : Bytes events
+  pub accepted : listRefusal items table events ≡ 0
+  pub gets : itemAt (listItems items table events) k .refusal ≡ n
+
+abbrev pub ItemsReached : List ℕ → Type 0
+ItemsReached [] = Unit {0}
+ItemsReached (n ∷ ns) = ItemGets n × ItemsReached ns
+
 pub record Demand1 : Type 0 where
   pub messages : (m : Message) (table events : List ℕ) → Bytes table → OfMessage m table events
+  pub lists : (items : List Item) (table events : List ℕ) → Bytes table → OfList items table events
   pub notes : (map log : List ℕ) (e : Extent) (image : ℕ) → OfNote map log e image
   pub writes : (map : List ℕ) (p : Piece) (image : List ℕ) → OfWrite map p image
   pub restarts : (map log : List ℕ) → OfRestart map log
-  -- "For each number 1 to 18 an input that gets it, so that no refusal is dead": for each number of each entry
+  -- "For each number 1 to 19 an input that gets it, so that no refusal is dead": for each number of each entry, and of an item
   pub reached : (e : Entry) → Reached e (numbers e)
+  pub items-reached : ItemsReached (3 ∷ 4 ∷ 5 ∷ 6 ∷ 7 ∷ 8 ∷ [])

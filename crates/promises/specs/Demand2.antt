@@ -1,25 +1,28 @@
 -- DEMAND 2. "A session is a list of messages from the empty table through the entries on bytes. Grants, waits, revocations and widened ranges are those
 -- of the rules; the table stays sound; the bytes are what XDR says; each record at most one event a call; no waiter without an obstacle; every
 -- revocation goes to a lock that conflicts with a waiting request, and each such lock in state 1 gets one."
-use Prim.Native.Nat.{ℕ, _≤_}
+use Prim.Native.Nat.{ℕ, _≤_, _<_}
 use mathlib.Core.Path.{_≡_}
 use mathlib.Core.Bool.{true, not}
 use mathlib.Core.List.{List, _++_, map}
 use lib.Dec.{T, eqb, ltb}
-use lib.ListN.{length, getD, replicate}
+use lib.ListN.{length, getD, take, replicate}
 use Rattle.common.specs.Counters.{width}
 use Rattle.common.specs.Tests.{pairs, upFrom}
 use Rattle.xdr.specs.Array.{array, arraySize}
 use Rattle.table.specs.declared.Lock.{Lock}
 use Rattle.table.specs.Table.{Table, empty, handleOf, lastOf, maxRecords}
 use Rattle.table.specs.Bytes.{tableSize, tableOf, soundTableBytes}
+use Rattle.locks.specs.declared.Item.{Item}
 use Rattle.locks.specs.declared.Message.{Message}
 use Rattle.locks.specs.Settle.{Event, grantEvent, revocation}
 use Rattle.locks.specs.Serve.{serve}
 use Rattle.locks.specs.Events.{eventLayout, eventFields, eventsSize}
 use Rattle.locks.specs.Session.{tableAfter, events, handlesTaken, numbers}
+use Rattle.locks.specs.List.{maxItems, itemAt, requestOf, answeredItem, maxListEvents, listEventsSize}
 use Rattle.serve.specs.declared.Answer.{Answer}
 use Rattle.message.specs.Messages.{Serves}
+use Rattle.list.specs.Lists.{ServesList}
 use Rattle.promises.specs.Session.{Session}
 use Rattle.promises.specs.Reasoned.{Reasoned}
 
@@ -47,6 +50,28 @@ abbrev pub Goes : List ℕ → Table → Type 0
 Goes t X =
     (m : Message) (b : List ℕ) (r : Answer) (u c : List ℕ) → eventsSize width ≤ length b → Serves m t b r u c → Called X m b r u c
 
+-- A list of requests on a table that the rules have as X, lent the items xs and the event buffer b: it answers r, and leaves ys, u and c in them
+pub record CalledList (X : Table) (xs : List Item) (b : List ℕ) (r : Answer) (ys : List Item) (u c : List ℕ) : Type 0 where
+  -- "the table, answers and event sequence of single marked requests in list order"
+  pub answer : r ≡ record { refusal = 0; handle = 0; events = length (events X (map requestOf xs)) }
+  pub long-items : length ys ≡ length xs
+  pub each : (k : ℕ) → k < length xs
+      → itemAt ys k ≡ answeredItem (itemAt xs k) (serve (tableAfter X (map requestOf (take k xs))) (requestOf (itemAt xs k)))
+  pub table : tableOf width u ≡ tableAfter X (map requestOf xs)
+  pub sound : soundTableBytes u ≡ true
+  -- "At most 512 events arise"
+  pub few : length (events X (map requestOf xs)) ≤ maxListEvents
+  pub beyond : (k : ℕ) → arraySize (length (events X (map requestOf xs))) (eventLayout width) ≤ k → getD c k 0 ≡ getD b k 0
+  pub long : length c ≡ length b
+  pub events : array (eventLayout width) c 0 ≡ map eventFields (events X (map requestOf xs))
+  -- an item that is accepted is granted, waits and asks back as any request does
+  pub reasoned : (k : ℕ) → k < length xs → itemAt ys k .refusal ≡ 0 → Reasoned (tableAfter X (map requestOf (take k xs))) (requestOf (itemAt xs k))
+
+abbrev pub GoesList : List ℕ → Table → Type 0
+GoesList t X =
+    (xs : List Item) (b : List ℕ) (r : Answer) (ys : List Item) (u c : List ℕ) → length xs ≤ maxItems → listEventsSize width ≤ length b
+    → ServesList xs t b r ys u c → CalledList X xs b r ys u c
+
 -- After a session of the entries: its table and events are the rules', and so goes any call that comes next. Each call of a session comes next after
 -- those before it
 pub record Followed (ms : List Message) (es : List Event) (t : List ℕ) : Type 0 where
@@ -59,10 +84,12 @@ pub record Followed (ms : List Message) (es : List Event) (t : List ℕ) : Type 
   -- "A sequence number is taken by each grant of NBW, BW or PW, per stripe, from 1"
   pub numbered : (s : ℕ) → numbers s es ≡ upFrom 1 (lastOf (tableAfter empty ms) s)
   pub next : Goes t (tableAfter empty ms)
+  pub next-list : GoesList t (tableAfter empty ms)
 
 pub record Demand2 : Type 0 where
   -- on every sound table, wherever it comes from, settled or not
   pub anywhere : (t : List ℕ) → soundTableBytes t ≡ true → Goes t (tableOf width t)
+  pub lists-anywhere : (t : List ℕ) → soundTableBytes t ≡ true → GoesList t (tableOf width t)
   -- "A session is a list of messages": every list of messages is one
   pub sessions : (ms : List Message) → (es : List Event) × (t : List ℕ) × Session (replicate (tableSize width) 0) ms es t
   pub follow : (ms : List Message) (es : List Event) (t : List ℕ) → Session (replicate (tableSize width) 0) ms es t → Followed ms es t
