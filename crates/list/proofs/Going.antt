@@ -1,20 +1,17 @@
 -- Where the loop over the items stands, as plain values: what is done, and that what is left decides as the whole. No word of memory.
 --     State        the place, the count of events, the items and bytes as they are, and the facts that hold there
---     start, next, ended      the loop begins, goes on by a step, and ends
-use Prim.Native.Nat.{ℕ, suc, _+_, _≤_, _<_, _^_}
+--     begun, next, ended      the loop begins, goes on by a step, and ends.        item-room, end-room    what is written next has room
+use Prim.Native.Nat.{ℕ, suc, _+_, _≤_, _<_}
 use native.Mathlib.Omega.{arith}
-use native.Mathlib.Nat.{zero-add}
 use native.Mathlib.Numerals.{add-one}
-use mathlib.Core.List.{List, [], _∷_, _++_, map, append-nil, append-assoc}
+use mathlib.Core.List.{List, [], _∷_, _++_, append-nil, append-assoc}
 use mathlib.Core.Path.{_≡_, refl, sym, ap, ap₂, subst, _∙_}
-use lib.Dec.{T}
-use lib.ListN.{length, set, take, drop, length-map, length-append, drop-of-length-le}
+use lib.ListN.{length, take, drop, length-map, length-append, drop-of-length-le}
 use lib.Seq.{take-suc-set, drop-set-lt, drop-cons, append-snoc, take-all}
 use Rattle.common.specs.Counters.{width}
 use Rattle.xdr.specs.Be.{putBe}
 use Rattle.xdr.specs.Array.{putElements, putArray}
 use Rattle.table.specs.Table.{Table}
-use Rattle.table.specs.Sound.{sound}
 use Rattle.table.specs.Bytes.{tableOf}
 use Rattle.table.specs.Places.{countOf, Shape, Holds, Good}
 use Rattle.table.proofs.Records.{locks-length}
@@ -22,15 +19,14 @@ use Rattle.locks.specs.declared.Item.{Item}
 use Rattle.locks.specs.Settle.{Event}
 use Rattle.locks.specs.Serve.{Outcome}
 use Rattle.locks.specs.Events.{eventFields, eventsOver, Room}
-use Rattle.locks.specs.List.{noItem, itemAt, requestOf, answeredItem, Listed, before, serveList, maxItems, maxListEvents}
-use Rattle.locks.proofs.Served.{serve-sound}
+use Rattle.locks.specs.List.{noItem, itemAt, answeredItem, Listed, before, serveList, maxListEvents}
 use Rattle.locks.proofs.Lists.{list-few}
 use Rattle.settle.specs.Posts.{putEvents}
-use Rattle.settle.proofs.Written.{events-then}
 use Rattle.serve.specs.declared.Answer.{Answer}
 use Rattle.list.specs.Lists.{listOutcome, listItems, ServesList}
 use Rattle.list.specs.Posts.{outcomeOf, Steps}
 use Rattle.list.proofs.Judging.{Passed}
+use Rattle.list.proofs.Stepping.{step-bytes, step-good}
 
 -- the items that are done and their events, in front of what is left
 abbrev pub front : List Item → List Event → Listed → Listed
@@ -63,17 +59,8 @@ all-done : (i : ℕ) (xs : List Item) (t : List ℕ) (es : List Event) → lengt
 unfolding serveList
 all-done i xs t es l = rw (take-all i xs l, drop-of-length-le xs l) (λ j. record { items = append-nil xs j; table = tableOf width t; events = append-nil es j })
 
--- the events of one item behind those before it
-pub on-bytes : (b₀ b c : List ℕ) (k : ℕ) (es fs : List Event) → b ≡ putEvents b₀ 0 es → k ≡ length es → c ≡ putEvents b k fs → c ≡ putEvents b₀ 0 (es ++ fs)
-on-bytes b₀ b c k es fs p q h =
-    h ∙ ap₂ (λ (x : List ℕ) (m : ℕ). putEvents x m fs) p (q ∙ sym (zero-add (length es))) ∙ sym (events-then b₀ 0 es fs)
-
--- a step leaves a good table
-pub step-good : (t u : List ℕ) (x : Item) → Good (countOf t) t → Holds (countOf u) (outcomeOf t x .table) u → Good (countOf u) u
-step-good t u x G H = record { shape = H .shape; sounds = subst (λ (Y : Table). T (sound Y)) (sym (H .says)) (serve-sound (tableOf width t) (requestOf x) (G .sounds)) }
-
 module _ (xs₀ : List Item) (t₀ b₀ : List ℕ) where
-  abbrev whole : Listed
+  abbrev pub whole : Listed
   whole = serveList (tableOf width t₀) xs₀
 
   pub record State : Type 0 where
@@ -84,7 +71,7 @@ module _ (xs₀ : List Item) (t₀ b₀ : List ℕ) where
     pub bs : List ℕ
     pub sent : List Event
     pub start : Passed xs₀ t₀ b₀
-    pub most : length (serveList (tableOf width t₀) xs₀ .events) ≤ maxListEvents
+    pub most : length (whole .events) ≤ maxListEvents
     pub upto : i ≤ length xs₀
     pub same-xs : length xs ≡ length xs₀
     pub same-ts : length ts ≡ length t₀
@@ -92,7 +79,7 @@ module _ (xs₀ : List Item) (t₀ b₀ : List ℕ) where
     pub good : Good (countOf ts) ts
     pub count : k ≡ length sent
     pub bytes : bs ≡ putEvents b₀ 0 sent
-    pub rest : front (take i xs) sent (left ts xs i) ≡ serveList (tableOf width t₀) xs₀
+    pub rest : front (take i xs) sent (left ts xs i) ≡ whole
 
   pub none-yet : b₀ ≡ putEvents b₀ 0 []
   unfolding putElements
@@ -119,32 +106,35 @@ module _ (xs₀ : List Item) (t₀ b₀ : List ℕ) where
   }
 
   module _ (s : State) where
+    -- the outcome of the item that is next
+    abbrev pub its : Outcome
+    its = outcomeOf (s .ts) (itemAt (s .xs) (s .i))
+
     -- the events so far and those that are left are all
-    sent-all : s .sent ++ left (s .ts) (s .xs) (s .i) .events ≡ serveList (tableOf width t₀) xs₀ .events
+    sent-all : s .sent ++ left (s .ts) (s .xs) (s .i) .events ≡ whole .events
     sent-all = ap (λ (l : Listed). l .events) (s .rest)
 
     pub k-most : s .k ≤ maxListEvents
     k-most =
         let c = s .count in
         let m = s .most in
-        let e : length (s .sent ++ left (s .ts) (s .xs) (s .i) .events) ≡ length (serveList (tableOf width t₀) xs₀ .events) = ap (λ (es : List Event). length es) sent-all in
+        let e : length (s .sent ++ left (s .ts) (s .xs) (s .i) .events) ≡ length (whole .events) = ap (λ (es : List Event). length es) sent-all in
         omega (arith, length-append (s .sent) (left (s .ts) (s .xs) (s .i) .events))
 
     pub within : s .i < length xs₀ → s .i < length (s .xs)
     within l = subst (λ (m : ℕ). s .i < m) (sym (s .same-xs)) l
 
     -- the item has room for its events
-    item-most : s .i < length xs₀ → s .k + length (outcomeOf (s .ts) (itemAt (s .xs) (s .i)) .events) ≤ maxListEvents
+    item-most : s .i < length xs₀ → s .k + length (its .events) ≤ maxListEvents
     item-most l =
-        let o : Outcome = outcomeOf (s .ts) (itemAt (s .xs) (s .i)) in
-        let later : List Event = serveList (o .table) (drop (suc (s .i)) (s .xs)) .events in
-        let f : left (s .ts) (s .xs) (s .i) .events ≡ o .events ++ later = ap (λ (w : Listed). w .events) (at-first (s .ts) (s .xs) (s .i) (within l)) in
-        let e : length (s .sent ++ (o .events ++ later)) ≡ length (serveList (tableOf width t₀) xs₀ .events) = ap (λ (es : List Event). length (s .sent ++ es)) (sym f) ∙ ap (λ (es : List Event). length es) sent-all in
+        let later : List Event = serveList (its .table) (drop (suc (s .i)) (s .xs)) .events in
+        let f : left (s .ts) (s .xs) (s .i) .events ≡ its .events ++ later = ap (λ (w : Listed). w .events) (at-first (s .ts) (s .xs) (s .i) (within l)) in
+        let e : length (s .sent ++ (its .events ++ later)) ≡ length (whole .events) = ap (λ (es : List Event). length (s .sent ++ es)) (sym f) ∙ ap (λ (es : List Event). length es) sent-all in
         let c = s .count in
         let m = s .most in
-        omega (arith, length-append (s .sent) (o .events ++ later), length-append (o .events) later)
+        omega (arith, length-append (s .sent) (its .events ++ later), length-append (its .events) later)
 
-    pub item-room : s .i < length xs₀ → Room (s .k + length (outcomeOf (s .ts) (itemAt (s .xs) (s .i)) .events)) (s .bs)
+    pub item-room : s .i < length xs₀ → Room (s .k + length (its .events)) (s .bs)
     item-room l = let m = item-most l in let r = s .start .room in let e = s .same-bs in omega arith
 
     pub end-room : Room (s .k) (s .bs)
@@ -158,7 +148,7 @@ module _ (xs₀ : List Item) (t₀ b₀ : List ℕ) where
       xs = ys;
       ts = u;
       bs = c;
-      sent = s .sent ++ outcomeOf (s .ts) (itemAt (s .xs) (s .i)) .events;
+      sent = s .sent ++ its .events;
       start = s .start;
       most = s .most;
       upto = omega arith;
@@ -167,18 +157,18 @@ module _ (xs₀ : List Item) (t₀ b₀ : List ℕ) where
       same-bs = lb ∙ s .same-bs;
       good = step-good (s .ts) u (itemAt (s .xs) (s .i)) (s .good) (S .table);
       count = counted r S;
-      bytes = on-bytes b₀ (s .bs) c (s .k) (s .sent) (outcomeOf (s .ts) (itemAt (s .xs) (s .i)) .events) (s .bytes) (s .count) (S .events);
+      bytes = step-bytes b₀ (s .bs) c (s .k) (s .sent) (its .events) (s .bytes) (s .count) (S .events);
       rest = goes-on (s .i) (s .k) (s .xs) (s .ts) (s .bs) r ys u c (s .sent) (within l) S ∙ s .rest;
     }
       where
-        counted : (r : ℕ) → Steps (s .i) (s .k) (s .xs) (s .ts) (s .bs) r ys u c → r ≡ length (s .sent ++ outcomeOf (s .ts) (itemAt (s .xs) (s .i)) .events)
-        counted r S = let a = S .count in let d = s .count in omega (arith, length-append (s .sent) (outcomeOf (s .ts) (itemAt (s .xs) (s .i)) .events))
+        counted : (r : ℕ) → Steps (s .i) (s .k) (s .xs) (s .ts) (s .bs) r ys u c → r ≡ length (s .sent ++ its .events)
+        counted r S = let a = S .count in let d = s .count in omega (arith, length-append (s .sent) (its .events))
 
     -- the loop is over, and c has the count of events too
     pub ended : length xs₀ ≤ s .i → (r : Answer) (c : List ℕ) → (r ≡ record { refusal = 0; handle = 0; events = s .k }) × (c ≡ putBe 4 (s .bs) 0 (s .k)) → ServesList xs₀ t₀ b₀ r (s .xs) (s .ts) c
     unfolding listOutcome listItems eventsOver putArray
     ended over r c F =
-        let all : record { items = s .xs; table = tableOf width (s .ts); events = s .sent } ≡ serveList (tableOf width t₀) xs₀
+        let all : record { items = s .xs; table = tableOf width (s .ts); events = s .sent } ≡ whole
         = sym (all-done (s .i) (s .xs) (s .ts) (s .sent) (subst (λ (m : ℕ). m ≤ s .i) (sym (s .same-xs)) over)) ∙ s .rest in
         record {
           call = rw (s .start .none) (record {

@@ -2,9 +2,9 @@
 use Prim.Native.Nat.{ℕ, _≤_, _<_}
 use native.Mathlib.Omega.{arith}
 use mathlib.Core.Bool.{Bool, true, false, not}
-use mathlib.Core.List.{List, []}
+use mathlib.Core.List.{List}
 use mathlib.Core.Path.{_≡_, refl, subst}
-use lib.Dec.{T, eqb, eqb→eq, nltb→le}
+use lib.Dec.{T, eqb, leb, eqb→eq, leb→le, nltb→le}
 use lib.ListN.{length}
 use borrow.Author.Tests.{lt-ltb, le-ltb, ne-eqb}
 use Rattle.common.specs.Counters.{width}
@@ -14,10 +14,9 @@ use Rattle.common.proofs.Order.{eq→eqb}
 use Rattle.common.proofs.Refusals.{unbroken}
 use Rattle.table.specs.Bytes.{tableOf, soundTableBytes}
 use Rattle.table.specs.Places.{countOf, Good}
-use Rattle.sound.proofs.Passed.{sound-good}
+use Rattle.table.proofs.Zeros.{sound-good}
 use Rattle.locks.specs.declared.Item.{Item}
 use Rattle.locks.specs.List.{maxItems, listEventsSize}
-use Rattle.serve.specs.declared.Answer.{Answer}
 use Rattle.serve.proofs.Ending.{leaves-refused}
 use Rattle.list.specs.Lists.{listRules, listRefusal, listOutcome, listItems, ServesList}
 
@@ -30,11 +29,13 @@ module _ (t : List ℕ) (room count : ℕ) where
     pub not-sound : not x ≡ true → 2 ≡ firstHit (listRules t room count)
     not-sound f = rw (le-ltb room (listEventsSize width) h, ← e, f)
 
-    pub too-many : not x ≡ false → maxItems < count → 19 ≡ firstHit (listRules t room count)
-    too-many f m = rw (le-ltb room (listEventsSize width) h, ← e, f, lt-ltb maxItems count m)
+    -- m is the most that the code lets through
+    module _ (m : ℕ) (f : not x ≡ false) where
+      pub too-many : T (leb maxItems m) → m < count → 19 ≡ firstHit (listRules t room count)
+      too-many a p = rw (le-ltb room (listEventsSize width) h, ← e, f, lt-ltb maxItems count (let q = leb→le maxItems m a in omega arith))
 
-    pub let-through : not x ≡ false → count ≤ maxItems → 0 ≡ firstHit (listRules t room count)
-    let-through f m = rw (le-ltb room (listEventsSize width) h, ← e, f, le-ltb maxItems count m)
+      pub let-through : T (leb m maxItems) → count ≤ m → 0 ≡ firstHit (listRules t room count)
+      let-through a p = rw (le-ltb room (listEventsSize width) h, ← e, f, le-ltb maxItems count (let q = leb→le m maxItems a in omega arith))
 
 -- a list that is not refused
 pub record Passed (xs : List Item) (t b : List ℕ) : Type 0 where

@@ -1,32 +1,29 @@
 -- One item: what the single request leaves is what the item's outcome says, refused or not.
-use Prim.Native.Nat.{ℕ, _+_}
-use mathlib.Core.Bool.{Bool, true, false, not, cond}
-use mathlib.Core.List.{List, []}
-use mathlib.Core.Path.{_≡_, refl, sym, ap, subst, _∙_}
+use Prim.Native.Nat.{ℕ}
+use mathlib.Core.Bool.{Bool, true, false, not}
+use mathlib.Core.List.{List}
+use mathlib.Core.Path.{_≡_, refl, sym, ap, subst}
 use lib.Dec.{T, eqb}
 use lib.ListN.{length}
 use Rattle.common.specs.Counters.{width}
-use Rattle.common.specs.Refusals.{firstHit}
 use Rattle.table.specs.Table.{Table}
-use Rattle.table.specs.Sound.{sound}
 use Rattle.table.specs.Bytes.{tableOf}
 use Rattle.table.specs.Places.{countOf, Shape, Holds, Good}
-use Rattle.table.proofs.Records.{locks-length}
 use Rattle.locks.specs.declared.Item.{Item}
 use Rattle.locks.specs.Refusals.{rules}
-use Rattle.locks.specs.Serve.{Outcome, served, answered, change, serve}
-use Rattle.locks.specs.List.{requestOf, answeredItem}
-use Rattle.locks.proofs.Served.{by-served, serve-sound}
+use Rattle.locks.specs.Serve.{Outcome, answered, change, serve}
+use Rattle.locks.specs.List.{requestOf}
+use Rattle.locks.proofs.Served.{by-served}
 use Rattle.serve.specs.declared.Answer.{Answer}
 use Rattle.serve.specs.Posts.{Behind}
 use Rattle.list.specs.Posts.{outcomeOf, ServesItem}
 
 -- the shape that the bytes have, told by their own count
-pub own-count : (n : ℕ) (u : List ℕ) → Shape n u → Shape (countOf u) u
+own-count : (n : ℕ) (u : List ℕ) → Shape n u → Shape (countOf u) u
 own-count n u S = subst (λ (m : ℕ). Shape m u) (sym (S .count)) S
 
 -- a table that a call has refused is as it was
-pub still : (o : Outcome) (t u : List ℕ) → Shape (countOf t) t → (T (not (eqb (o .refusal) 0)) → o .table ≡ tableOf width t)
+still : (o : Outcome) (t u : List ℕ) → Shape (countOf t) t → (T (not (eqb (o .refusal) 0)) → o .table ≡ tableOf width t)
     → (T (not (eqb (o .refusal) 0)) → u ≡ t) → (T (eqb (o .refusal) 0) → Holds (length (o .table .locks)) (o .table) u) → Holds (countOf u) (o .table) u
 still o t u S z same table = go (eqb (o .refusal) 0) z same table
   where

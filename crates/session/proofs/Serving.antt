@@ -23,9 +23,9 @@ use Rattle.locks.proofs.Fitting.{serve-fit}
 use Rattle.serve.specs.declared.Answer.{Answer}
 use Rattle.serve.specs.Leaves.{Leaves}
 use Rattle.message.specs.Messages.{Serves}
-use Rattle.sound.proofs.Passed.{sound-good}
-use Rattle.promises.specs.Session.{done, call}
-use Rattle.promises.proofs.Sessions.{outcome-is, Follows, session-follows}
+use Rattle.table.proofs.Zeros.{sound-good}
+use Rattle.promises.proofs.Sessions as sessions
+use Rattle.promises.proofs.Sessions.{outcome-is, Follows}
 use Rattle.line.specs.declared.Read.the-variants.{Bad, Good}
 use Rattle.text.specs.Text.{badText, outcomeText, lineSize, outcomeSize}
 use Rattle.text.specs.Buffers.{Wrote, eventsIn}
@@ -64,7 +64,7 @@ module _ (m : Message) (t b : List ℕ) {r : Answer} {u c : List ℕ} (s : sound
   few = serve-once (tableOf width t) m sounds .at-most
 
   pub follows : Follows (o .table) u
-  follows = session-follows (call h L done) s
+  follows = sessions.follows m t b r u c s h L
 
   pub counted : r .events ≤ maxRecords
   counted = omega (arith, few, ap (λ (a : Answer). a .events) (served .answer))

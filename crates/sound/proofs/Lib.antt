@@ -6,4 +6,3 @@ pub mod Rows
 pub mod Whole
 pub mod Numbers
 pub mod Fields
-pub mod Passed

@@ -1,5 +1,5 @@
 -- `call`: the refusals 1 and 2, and then the message.
-use Rattle.sound.proofs.Passed.{sound-good}
+use Rattle.table.proofs.Zeros.{sound-good}
 use Rattle.message.proofs.Entering.{too-short, not-sound, let-through}
 use borrow.Author.Needs.{needs}
 use Rattle.message.proofs.call.Statement.{statement}
