@@ -22,7 +22,7 @@
 extern "C" {
 #endif
 
-#define GIL_VERSION "0.1.0"
+#define GIL_VERSION "0.2.0"
 
 /* 1. Rules that no code can check
  *

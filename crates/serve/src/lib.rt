@@ -4,6 +4,8 @@ use common::Number;
 use judge::Becomes;
 use modes::WAITING;
 use table::Lock;
+use table::MARKED;
+use table::UNMARKED;
 ghost use mathlib.Core.Path.{_≡_};
 ghost use mathlib.Core.Bool.{cond};
 ghost use Prim.Native.Nat.{_+_};
@@ -76,7 +78,7 @@ fn finish(t: &mut [u8], b: &mut [u8], n: usize, h: Handle) -> Answer
 fn mark_of(marked: bool) -> u64
     ensures { λ r. ⌜ r ≡ cond marked 1 0 ⌝ }
 {
-    if marked { 1 } else { 0 }
+    if marked { MARKED } else { UNMARKED }
 }
 
 // Makes the record of a request, which waits.

@@ -11,6 +11,7 @@ use modes::GRANTED;
 use modes::PR;
 use modes::WAITING;
 use table::Lock;
+use table::UNMARKED;
 ghost use mathlib.Core.Path.{_≡_};
 ghost use mathlib.Core.List.{[], _∷_};
 ghost use Prim.Native.Nat.{_+_, _^_, _<_};
@@ -32,7 +33,7 @@ fn granted(t: &[u8], n: usize, i: usize, w: Lock, v: Number) -> Lock
     if conflicts::hurried(t, n, i) {
         return table::remade(w, w.mode, CANCELING, v, w.last);
     }
-    if w.mark != 0 {
+    if w.mark != UNMARKED {
         return table::remade(w, w.mode, GRANTED, v, w.last);
     }
     table::remade(w, w.mode, GRANTED, v, conflicts::reach(t, n, i))

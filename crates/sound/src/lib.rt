@@ -9,9 +9,11 @@ use modes::NBW;
 use modes::PR;
 use modes::WAITING;
 use table::Lock;
+use table::MARKED;
 use table::MAX_CLIENT;
 use table::MAX_STRIPE;
 use table::STRIPES;
+use table::UNMARKED;
 ghost use mathlib.Core.Path.{_≡_};
 ghost use mathlib.Core.Bool.{cond};
 ghost use Prim.Native.Nat.{_≤_, _<_};
@@ -49,9 +51,9 @@ fn is_marked(l: Lock) -> bool
     ensures { λ r. ⌜ r ≡ wellMarked l ⌝ }
 {
     if l.state == WAITING {
-        return l.mark <= 1;
+        return l.mark <= MARKED;
     }
-    l.mark == 0
+    l.mark == UNMARKED
 }
 
 // Says whether a record is valid by itself.

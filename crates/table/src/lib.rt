@@ -22,6 +22,11 @@ pub const STRIPES: usize = 16;
 
 pub const MAX_RECORDS: usize = 256;
 
+// The marks of a record.
+pub const UNMARKED: u64 = 0;
+
+pub const MARKED: u64 = 1;
+
 // Where the fields of a record stand, one behind the other, and how many bytes they have.
 const HANDLE: usize = 0;
 
@@ -83,7 +88,7 @@ pub fn remade(l: Lock, mode: u64, state: u64, number: Number, last: u64) -> Lock
         number: number,
         first: l.first,
         last: last,
-        mark: 0,
+        mark: UNMARKED,
     }
 }
 
@@ -218,14 +223,6 @@ pub fn last_at(t: &[u8], i: usize) -> u64
     ensures { λ r. ⌜ r ≡ lockAt (now (t .entry)) i .last ⌝ }
 {
     xdr::u64_at(t, place(i) + LAST)
-}
-
-// Reads the mark of the record at place i.
-pub fn mark_at(t: &[u8], i: usize) -> u64
-    requires { ⌜ (length (now t) ≡ tableSize width) × (i < maxRecords) ⌝ }
-    ensures { λ r. ⌜ r ≡ lockAt (now (t .entry)) i .mark ⌝ }
-{
-    xdr::u32_at(t, place(i) + MARK)
 }
 
 // Reads the mode of the record at place i of a table whose modes are known: such a mode stands in the last byte of its field.
