@@ -29,14 +29,14 @@ list-events t [] = refl
 list-events t (i ∷ is) = ap (λ (es : List Event). serve t (requestOf i) .events ++ es) (list-events (serve t (requestOf i) .table) is)
 
 -- messages, and then others
-pub after-then : (t : Table) (ms ns : List Message) → tableAfter t (ms ++ ns) ≡ tableAfter (tableAfter t ms) ns
-after-then t [] ns = refl
-after-then t (m ∷ ms) ns = after-then (serve t m .table) ms ns
+pub tables-join : (t : Table) (ms ns : List Message) → tableAfter t (ms ++ ns) ≡ tableAfter (tableAfter t ms) ns
+tables-join t [] ns = refl
+tables-join t (m ∷ ms) ns = tables-join (serve t m .table) ms ns
 
-pub events-then : (t : Table) (ms ns : List Message) → events t (ms ++ ns) ≡ events t ms ++ events (tableAfter t ms) ns
-events-then t [] ns = refl
-events-then t (m ∷ ms) ns =
-    ap (λ (es : List Event). serve t m .events ++ es) (events-then (serve t m .table) ms ns)
+pub events-join : (t : Table) (ms ns : List Message) → events t (ms ++ ns) ≡ events t ms ++ events (tableAfter t ms) ns
+events-join t [] ns = refl
+events-join t (m ∷ ms) ns =
+    ap (λ (es : List Event). serve t m .events ++ es) (events-join (serve t m .table) ms ns)
     ∙ sym (append-assoc (serve t m .events) (events (serve t m .table) ms) (events (tableAfter (serve t m .table) ms) ns))
 
 -- "find each one's answer stored in its own description": that of the single marked request on the table that the items before it left

@@ -21,7 +21,7 @@ use Rattle.locks.specs.Session.{tableAfter, events}
 use Rattle.locks.specs.Events.{eventsSize}
 use Rattle.locks.specs.List.{maxItems, requestOf, serveList, listEventsSize}
 use Rattle.locks.proofs.Served.{serve-sound}
-use Rattle.locks.proofs.Lists.{list-table, list-events, list-sound, after-then, events-then}
+use Rattle.locks.proofs.Lists.{list-table, list-events, list-sound, tables-join, events-join}
 use Rattle.serve.specs.declared.Answer.{Answer}
 use Rattle.serve.specs.Leaves.{Leaves}
 use Rattle.message.specs.Messages.{outcome, Serves}
@@ -86,7 +86,7 @@ session-follows (call {t = t} {u = u} {v = v} {b = b} {c = c} {m = m} {ms = ms} 
     subst (λ (x : Table). Follows (tableAfter x ms) v) (F .says) (session-follows S (F .sound))
 session-follows (list {t = t} {u = u} {v = v} {b = b} {c = c} {xs = xs} {ys = ys} {ms = ms} {r = r} i h L S) s =
     let F = list-follows xs t b r ys u c s i h L in
-    subst (λ (x : Table). Follows x v) (ap (λ (x : Table). tableAfter x ms) (F .says) ∙ sym (after-then (tableOf width t) (map requestOf xs) ms)) (session-follows S (F .sound))
+    subst (λ (x : Table). Follows x v) (ap (λ (x : Table). tableAfter x ms) (F .says) ∙ sym (tables-join (tableOf width t) (map requestOf xs) ms)) (session-follows S (F .sound))
 
 pub session-events : {t v : List ℕ} {ms : List Message} {es : List Event} → Session t ms es v → soundTableBytes t ≡ true → es ≡ events (tableOf width t) ms
 session-events done s = refl
@@ -97,4 +97,4 @@ session-events (list {t = t} {u = u} {b = b} {c = c} {xs = xs} {ys = ys} {ms = m
     let X : Table = tableOf width t in
     let F = list-follows xs t b r ys u c s i h L in
     ap₂ (λ (x y : List Event). x ++ y) (ap (λ (o : Outcome). o .events) (list-is xs t b s i h) ∙ list-events X xs) (session-events S (F .sound) ∙ ap (λ (x : Table). events x ms) (F .says))
-    ∙ sym (events-then X (map requestOf xs) ms)
+    ∙ sym (events-join X (map requestOf xs) ms)
