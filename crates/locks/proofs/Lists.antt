@@ -78,7 +78,7 @@ list-sound t [] s = s
 list-sound t (i ∷ is) s = list-sound (serve t (requestOf i) .table) is (serve-sound t (requestOf i) s)
 
 -- "At most 512 events arise"
-all-requests : (is : List Item) → T (all requests (map requestOf is))
+pub all-requests : (is : List Item) → T (all requests (map requestOf is))
 all-requests [] = tt
 all-requests (i ∷ is) = all-requests is
 

@@ -23,6 +23,7 @@ use Rattle.locks.specs.declared.Message.{Message}
 use Rattle.locks.specs.declared.Message.the-variants.{Request, Acknowledge, Downgrade, Release}
 use Rattle.locks.specs.Refusals.{rules}
 use Rattle.locks.specs.Events.{eventsSize}
+use Rattle.locks.specs.Session.{single}
 use Rattle.locks.specs.List.{noItem, requestOf, listEventsSize}
 use Rattle.message.specs.Messages.{outcome}
 use Rattle.stripe.specs.Piece.{extent, piece}
@@ -30,7 +31,7 @@ use Rattle.promises.specs.Demand1.{Entry, request, acknowledge, downgrad
 use Rattle.promises.specs.Demand1.{Words, fields, itemWords, Gets, message, listing, noting, writing, restarting, Reached, ItemGets, ItemsReached, Demand1}
 use Rattle.promises.proofs.Determined.{of-message, of-list, of-note, of-write, of-restart}
 use Rattle.promises.proofs.Spaced.{spaced}
-use Rattle.promises.proofs.Reached.{buffer, no-events, another-length, on-empty, spent, spent-sound, none-left, queued, queued-sound, crowded, no-room, single, on-single}
+use Rattle.promises.proofs.Reached.{buffer, no-events, another-length, on-empty, spent, spent-sound, none-left, queued, queued-sound, crowded, no-room, lonely, on-lonely}
 use Rattle.promises.proofs.Reached.{list-buffer, list-no-events, list-no-table, too-many, lets-through, item-gets}
 use Rattle.promises.proofs.StripeReached.{map0, log0, one, logged, note-12, note-13, note-14, note-15, note-16, note-17, write-12, write-14, write-15, write-18, restart-12, restart-13, restart-16}
 
@@ -54,21 +55,21 @@ unfolding logged
 logged-bytes es = runs-bytes (logSize width) es
 
 -- A message on no table, on the empty table, on a table
-module _ (m : Message) (f : Words (fields m)) where
+module _ (m : Message) (i : T (single m)) (f : Words (fields m)) where
   short : Gets (entryOf m) 1
-  short = message m [] [] f no-bytes no-bytes (no-events m)
+  short = message m [] [] i f no-bytes no-bytes (no-events m)
 
   absent : Gets (entryOf m) 2
-  absent = message m [] buffer f no-bytes (blank-bytes (eventsSize width)) (another-length m)
+  absent = message m [] buffer i f no-bytes (blank-bytes (eventsSize width)) (another-length m)
 
   on : (X : Table) (n : ℕ) → outcome m (tableBytes X) buffer .refusal ≡ n → Gets (entryOf m) n
-  on X n e = message m (tableBytes X) buffer f (table-bytes X) (blank-bytes (eventsSize width)) e
+  on X n e = message m (tableBytes X) buffer i f (table-bytes X) (blank-bytes (eventsSize width)) e
 
   first : (n : ℕ) → firstHit (rules empty m) ≡ n → Gets (entryOf m) n
   first n e = on empty n (on-empty m n e)
 
-  lone : (n : ℕ) → firstHit (rules single m) ≡ n → Gets (entryOf m) n
-  lone n e = on single n (on-single m n e)
+  lone : (n : ℕ) → firstHit (rules lonely m) ≡ n → Gets (entryOf m) n
+  lone n e = on lonely n (on-lonely m n e)
 
 map0-bytes : Bytes map0
 map0-bytes = blank-bytes (mapSize width)
@@ -79,37 +80,37 @@ log0-bytes = blank-bytes (logSize width)
 reached : (e : Entry) → Reached e (numbers e)
 unfolding rules
 reached request =
-    short (Request 0 0 1 0 0 false) tt
-    also absent (Request 0 0 1 0 0 false) tt
-    also first (Request 64 0 1 0 0 false) tt 3 refl
-    also first (Request 0 16 1 0 0 false) tt 4 refl
-    also first (Request 0 0 5 0 0 false) tt 5 refl
-    also first (Request 0 0 1 5 4 false) tt 6 refl
-    also on (Request 0 0 1 0 0 false) tt spent 7 none-left
-    also on (Request 0 0 1 0 0 false) tt (queued maxRecords) 8 no-room
+    short (Request 0 0 1 0 0 false) tt tt
+    also absent (Request 0 0 1 0 0 false) tt tt
+    also first (Request 64 0 1 0 0 false) tt tt 3 refl
+    also first (Request 0 16 1 0 0 false) tt tt 4 refl
+    also first (Request 0 0 5 0 0 false) tt tt 5 refl
+    also first (Request 0 0 1 5 4 false) tt tt 6 refl
+    also on (Request 0 0 1 0 0 false) tt tt spent 7 none-left
+    also on (Request 0 0 1 0 0 false) tt tt (queued maxRecords) 8 no-room
     also tt
 reached acknowledge =
-    short (Acknowledge 0 1) tt
-    also absent (Acknowledge 0 1) tt
-    also first (Acknowledge 64 1) tt 3 refl
-    also first (Acknowledge 0 1) tt 9 refl
-    also lone (Acknowledge 1 1) tt 10 refl
-    also lone (Acknowledge 0 1) tt 11 refl
+    short (Acknowledge 0 1) tt tt
+    also absent (Acknowledge 0 1) tt tt
+    also first (Acknowledge 64 1) tt tt 3 refl
+    also first (Acknowledge 0 1) tt tt 9 refl
+    also lone (Acknowledge 1 1) tt tt 10 refl
+    also lone (Acknowledge 0 1) tt tt 11 refl
     also tt
 reached downgrade =
-    short (Downgrade 0 1) tt
-    also absent (Downgrade 0 1) tt
-    also first (Downgrade 64 1) tt 3 refl
-    also first (Downgrade 0 1) tt 9 refl
-    also lone (Downgrade 1 1) tt 10 refl
-    also lone (Downgrade 0 1) tt 11 refl
+    short (Downgrade 0 1) tt tt
+    also absent (Downgrade 0 1) tt tt
+    also first (Downgrade 64 1) tt tt 3 refl
+    also first (Downgrade 0 1) tt tt 9 refl
+    also lone (Downgrade 1 1) tt tt 10 refl
+    also lone (Downgrade 0 1) tt tt 11 refl
     also tt
 reached release =
-    short (Release 0 1) tt
-    also absent (Release 0 1) tt
-    also first (Release 64 1) tt 3 refl
-    also first (Release 0 1) tt 9 refl
-    also lone (Release 1 1) tt 10 refl
+    short (Release 0 1) tt tt
+    also absent (Release 0 1) tt tt
+    also first (Release 64 1) tt tt 3 refl
+    also first (Release 0 1) tt tt 9 refl
+    also lone (Release 1 1) tt tt 10 refl
     also tt
 reached list =
     listing [] [] [] tt no-bytes no-bytes list-no-events

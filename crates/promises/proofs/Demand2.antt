@@ -40,7 +40,7 @@ use Rattle.message.specs.Messages.{outcome, Serves}
 use Rattle.list.specs.Lists.{acceptedList, listOutcome, ServesList}
 use Rattle.promises.specs.Session.{Session, done, call, list}
 use Rattle.promises.specs.Reasoned.{Reasoned}
-use Rattle.promises.specs.Demand2.{Called, CalledList, Goes, GoesList, Followed, Demand2}
+use Rattle.promises.specs.Demand2.{Told, Called, CalledList, Goes, GoesList, Followed, Demand2}
 use Rattle.promises.proofs.Determined.{of-message, of-list}
 use Rattle.promises.proofs.Reached.{buffer, buffer-long, list-buffer, list-buffer-long}
 use Rattle.promises.proofs.Outcomes.{served-hit}
@@ -88,6 +88,11 @@ module _ (o : Outcome) (n : ℕ) (t b : List ℕ) (r : Answer) (u c : List ℕ) 
       ∙ by-cond (λ (x : List ℕ). length x ≡ length b) (eqb (o .refusal) 0) (eventsOver width b (o .events)) b
       (λ e. put-array-length (eventLayout width) b 0 (map eventFields (o .events))) (λ e. refl)
 
+tells : (X : Table) (m : Message) → T (sound X) → Told (serve X m .events)
+tells X m s =
+    let O : Once (serve X m .events) = serve-once X m s in
+    record { once = distinct (serve X m .events) (O .one-each); few = O .at-most; order = (O .grants, O .revoked, O .are, O .grants-rise, O .revoked-rise) }
+
 reasons : (X : Table) (m : Message) → T (sound X) → serve X m .refusal ≡ 0 → Reasoned X m
 reasons X m s e = serve-reasoned X m s (eq→eqb (refusal X m) 0 (sym (served-hit X m) ∙ e))
 
@@ -107,9 +112,7 @@ module _ (m : Message) (t b : List ℕ) (r : Answer) (u c : List ℕ) (s : sound
         beyond = beyond (serve X m) maxRecords t b r u c K (O .at-most);
         long = buffer-kept (serve X m) maxRecords t b r u c K (O .at-most);
         sound = F .sound;
-        once = distinct (serve X m .events) (O .one-each);
-        few = O .at-most;
-        order = (O .grants, O .revoked, O .are, O .grants-rise, O .revoked-rise);
+        told = tells X m q;
         reasoned = reasons X m q;
       }
 
@@ -150,6 +153,8 @@ module _ (t : List ℕ) (s : soundTableBytes t ≡ true) (xs : List Item) (b : L
         long = buffer-kept o maxListEvents t b r u c K few;
         sound = F .sound;
         few = subst (λ (es : List Event). length es ≤ maxListEvents) same few;
+        told = λ k p.
+            tells (tableAfter X (map requestOf (take k xs))) (requestOf (itemAt xs k)) (after-sound X (map requestOf (take k xs)) q);
         reasoned = λ k p e.
             reasons (tableAfter X (map requestOf (take k xs))) (requestOf (itemAt xs k)) (after-sound X (map requestOf (take k xs)) q)
             (sym (ap (λ (i : Item). i .refusal) (its k p)) ∙ e);

@@ -25,7 +25,10 @@ use Rattle.locks.specs.Conflicts.{conflicts, obstacle}
 use Rattle.locks.specs.Settle.{Event, grantEvent, inState, grant, free, turns, presses, revoked, settle}
 use Rattle.locks.specs.Refusals.{refusal, named, mayAcknowledge, mayDowngrade}
 use Rattle.locks.specs.Serve.{Outcome, asking, downgraded, change, answered, accepted, refused, serve}
+use Rattle.locks.specs.Session.{tableAfter, events, requests}
+use Rattle.locks.specs.List.{requestOf}
 use Rattle.locks.proofs.Served.{serve-sound}
+use Rattle.locks.proofs.Lists.{all-requests, list-events}
 use Rattle.locks.proofs.Walk.{turns-sound}
 use Rattle.locks.proofs.Waits.{stuck, serve-stuck}
 use Rattle.locks.proofs.Milder.{Milder, revoked-milder, acknowledged-milder, downgraded-milder}
@@ -35,8 +38,9 @@ use Rattle.locks.proofs.Sessions.{session-stuck, session-in-order}
 use Rattle.promises.specs.Among.{Among}
 use Rattle.promises.specs.Reasoned.{turned, atTurn, Asks}
 use Rattle.promises.specs.Overtaken.{NoneOvertaken}
-use Rattle.promises.proofs.Members.{in-all, in-split, in-keep, in-map, any-in, in-pairs, pairs-both, in-place, place-in}
+use Rattle.promises.proofs.Members.{in-all, in-split, in-left, in-right, in-keep, in-map, any-in, in-pairs, pairs-both, in-place, place-in}
 use Rattle.promises.proofs.Sessions.{outcome-is}
+use Rattle.promises.proofs.Lists.{list-is}
 use Rattle.promises.proofs.Settled.{good, is-accepted, serve-reasoned}
 use Rattle.promises.proofs.Demand2.{demand2}
 
@@ -115,23 +119,19 @@ settled-long U S =
     let rs : List Lock = turns (length (U .locks)) U .table .locks in
     length-map rs (revoked rs) ∙ turns-sound U S (length (U .locks)) (omega arith) .long
 
--- A waiting request w that the message finds, and leaves as v
-module _ (X : Table) (m : Message) (K : InOrder X) (w v : Lock) (h : Among w (X .locks)) (t : T (waits w)) (k : Among v (serve X m .table .locks)) (e : handleOf v ≡ handleOf w)
-    (p : (r : Lock) → Among r (serve X m .table .locks) → handleOf r < handleOf w → T (not (obstacle w r))) where
-  abbrev Told : Type 0
-  Told = (x : Event) × Among x (serve X m .events) × (x .kind ≡ 1) × (handleOf (x .lock) ≡ handleOf w)
+-- A refused message leaves the table
+left-alone : (X : Table) (m : Message) → T (not (eqb (refusal X m) 0)) → serve X m .table ≡ X
+unfolding serve
+left-alone X m z = ap (λ (o : Outcome). o .table) (cond-false (eqb (refusal X m) 0) (accepted (answered X m) (settle (change X m))) (refused X (refusal X m)) z)
 
-  -- it cannot be that it still waits
-  not-waiting : v ≡ w → ⊥
-  not-waiting d =
-      let a = held-up (serve X m .table) (serve-keeps-order X m K) w (subst (λ (x : Lock). Among x (serve X m .table .locks)) d k) t in
-      T-not (obstacle w (a .0)) (p (a .0) (a .1) (a .3)) (a .2)
+-- The grant of w is told among the events
+abbrev Told : Lock → List Event → Type 0
+Told w es = (x : Event) × Among x es × (x .kind ≡ 1) × (handleOf (x .lock) ≡ handleOf w)
 
-  by-refusal : T (not (eqb (refusal X m) 0)) → Told
-  unfolding serve
-  by-refusal z =
-      let same : serve X m .table ≡ X = ap (λ (o : Outcome). o .table) (cond-false (eqb (refusal X m) 0) (accepted (answered X m) (settle (change X m))) (refused X (refusal X m)) z) in
-      absurd (not-waiting (unique (X .locks) (sound→ X (K .sound) .apart) v w (subst (λ (Y : Table). Among v (Y .locks)) same k) h e))
+-- A waiting request w that the message finds, and leaves as v: it stands as it was, or its grant is told
+module _ (X : Table) (m : Message) (K : InOrder X) (w v : Lock) (h : Among w (X .locks)) (t : T (waits w)) (k : Among v (serve X m .table .locks)) (e : handleOf v ≡ handleOf w) where
+  by-refusal : T (not (eqb (refusal X m) 0)) → v ≡ w
+  by-refusal z = unique (X .locks) (sound→ X (K .sound) .apart) v w (subst (λ (Y : Table). Among v (Y .locks)) (left-alone X m z) k) h e
 
   -- Where the message is accepted, w has its turn at the place n
   module _ (z : T (eqb (refusal X m) 0)) where
@@ -166,20 +166,68 @@ module _ (X : Table) (m : Message) (K : InOrder X) (w v : Lock) (h : Among w (X 
           sym stands ∙ settled-place U S n inside ∙ ap (revoked rs) (cond-false (free (turned X m n .locks) (atTurn X m n)) g (atTurn X m n) b)
           ∙ M .left (subst T (sym (M .waits-is)) (asks .1)) ∙ its-turn
 
-      at-turn : Told
+      at-turn : (v ≡ w) ⊎ Told w (serve X m .events)
       at-turn =
           ⊎-elim
-          (λ (u : T hindered). absurd (not-waiting (as-it-was u)))
-          (λ (u : T (not hindered)). (grantEvent (nth (serve X m .table) n), serve-reasoned X m (K .sound) z .otherwise n asks u, refl, ap (λ (o : Outcome). handleOf (nth (o .table) n)) is ∙ ap handleOf stands ∙ e))
+          (λ (u : T hindered). inl (as-it-was u))
+          (λ (u : T (not hindered)). inr (grantEvent (nth (serve X m .table) n), serve-reasoned X m (K .sound) z .otherwise n asks u, refl, ap (λ (o : Outcome). handleOf (nth (o .table) n)) is ∙ ap handleOf stands ∙ e))
           (either hindered)
 
-    by-turn : Told
+    by-turn : (v ≡ w) ⊎ Told w (serve X m .events)
     by-turn =
         let p = in-place blank v (settle U .table .locks) (subst (λ (o : Outcome). Among v (o .table .locks)) is k) in
         at-turn (p .0) (subst (λ (j : ℕ). p .0 < j) (settled-long U S) (p .1)) (p .2)
 
-  told : Told
-  told = ⊎-elim by-turn by-refusal (either (eqb (refusal X m) 0))
+  waits-or-told : (v ≡ w) ⊎ Told w (serve X m .events)
+  waits-or-told = ⊎-elim by-turn (λ (z : T (not (eqb (refusal X m) 0))). inl (by-refusal z)) (either (eqb (refusal X m) 0))
+
+-- w still waits in the table, and no record of a smaller handle is in its way: that cannot be
+stands-free : (X : Table) → InOrder X → (w : Lock) → Among w (X .locks) → T (waits w) → ((r : Lock) → Among r (X .locks) → handleOf r < handleOf w → T (not (obstacle w r))) → ⊥
+stands-free X K w h t p = let a = held-up X K w h t in T-not (obstacle w (a .0)) (p (a .0) (a .1) (a .3)) (a .2)
+
+told : (X : Table) (m : Message) → InOrder X → (w v : Lock) → Among w (X .locks) → T (waits w) → Among v (serve X m .table .locks) → handleOf v ≡ handleOf w
+    → ((r : Lock) → Among r (serve X m .table .locks) → handleOf r < handleOf w → T (not (obstacle w r))) → Told w (serve X m .events)
+told X m K w v h t k e p =
+    ⊎-elim
+    (λ (d : v ≡ w). absurd (stands-free (serve X m .table) (serve-keeps-order X m K) w (subst (λ (x : Lock). Among x (serve X m .table .locks)) d k) t p))
+    (λ (x : Told w (serve X m .events)). x) (waits-or-told X m K w v h t k e)
+
+-- A request takes no record out: each still stands there, under its handle
+stays : (X : Table) (m : Message) → T (requests m) → T (sound X) → (w : Lock) → Among w (X .locks) → (v : Lock) × Among v (serve X m .table .locks) × (handleOf v ≡ handleOf w)
+unfolding change
+stays X m r s w h = go (either (eqb (refusal X m) 0))
+  where
+    kept : (q : Message) → T (requests q) → Among w (change X q .locks)
+    kept (Request c a k f l d) i = in-left w (X .locks) (asking (X .issued + 1) c a k f l d ∷ []) h
+    kept (Acknowledge c a) i = absurd i
+    kept (Downgrade c a) i = absurd i
+    kept (Release c a) i = absurd i
+
+    go : T (eqb (refusal X m) 0) ⊎ T (not (eqb (refusal X m) 0)) → (v : Lock) × Among v (serve X m .table .locks) × (handleOf v ≡ handleOf w)
+    go (inl z) =
+        let U : Table = change X m in
+        let S = good X m s z in
+        let q = in-place blank w (U .locks) (kept m r) in
+        let v : Lock = nth (settle U .table) (q .0) in (
+          v,
+          subst (λ (o : Outcome). Among v (o .table .locks)) (sym (is-accepted X m s z)) (place-in blank (settle U .table .locks) (q .0) (subst (λ (j : ℕ). q .0 < j) (sym (settled-long U S)) (q .1))),
+          same-handle U S (q .0) (q .1) ∙ ap handleOf (q .2),
+        )
+    go (inr z) = (w, subst (λ (Y : Table). Among w (Y .locks)) (sym (left-alone X m z)) h, refl)
+
+-- The same of requests one after the other: an item that leaves w as it was leaves it to the next
+told-all : (ms : List Message) → T (all requests ms) → (X : Table) → InOrder X → (w v : Lock) → Among w (X .locks) → T (waits w) → Among v (tableAfter X ms .locks) → handleOf v ≡ handleOf w
+    → ((r : Lock) → Among r (tableAfter X ms .locks) → handleOf r < handleOf w → T (not (obstacle w r))) → Told w (events X ms)
+told-all [] i X K w v h t k e p = absurd (stands-free X K w h t p)
+told-all (m ∷ ms) i X K w v h t k e p =
+    let Y : Table = serve X m .table in
+    let y = stays X m (and-l (requests m) (all requests ms) i) (K .sound) w h in
+    ⊎-elim
+    (λ (d : y .0 ≡ w).
+    let x = told-all ms (and-r (requests m) (all requests ms) i) Y (serve-keeps-order X m K) w v (subst (λ (z : Lock). Among z (Y .locks)) d (y .1)) t k e p in
+    (x .0, in-right (x .0) (serve X m .events) (events Y ms) (x .1), x .2, x .3))
+    (λ (x : Told w (serve X m .events)). (x .0, in-left (x .0) (serve X m .events) (events Y ms) (x .1), x .2, x .3))
+    (waits-or-told X m K w (y .0) h t (y .1) (y .2))
 
 pub none-overtaken : NoneOvertaken
 none-overtaken ms es t S =
@@ -198,4 +246,8 @@ none-overtaken ms es t S =
           let C = demand2 .anywhere t (F .sound) m b a u c l L in
           let T′ = told X m K w v h y (subst (λ (Y : Table). Among v (Y .locks)) (C .table) k) e (λ r j o. p r (subst (λ (Y : Table). Among r (Y .locks)) (sym (C .table)) j) o) in
           (T′ .0, subst (λ (o : Outcome). Among (T′ .0) (o .events)) (sym (outcome-is m t b (F .sound) l)) (T′ .1), T′ .2, T′ .3);
+      granted-list = λ xs b a ys u c i l L w v h y k e p.
+          let C = demand2 .lists-anywhere t (F .sound) xs b a ys u c i l L in
+          let T′ = told-all (map requestOf xs) (all-requests xs) X K w v h y (subst (λ (Y : Table). Among v (Y .locks)) (C .table) k) e (λ r j o. p r (subst (λ (Y : Table). Among r (Y .locks)) (sym (C .table)) j) o) in
+          (T′ .0, subst (λ (l : List Event). Among (T′ .0) l) (sym (ap (λ (o : Outcome). o .events) (list-is xs t b (F .sound) i l) ∙ list-events X xs)) (T′ .1), T′ .2, T′ .3);
     }

@@ -139,17 +139,17 @@ item-gets X s x n e =
     ∙ ap (λ (Y : Table). serve Y (requestOf x) .refusal) (table-held X (sound-fits X s) .says) ∙ served-hit X (requestOf x) ∙ e
 
 -- 10 and 11 on a table of one lock in state 1
-abbrev pub single : Table
-single =
+abbrev pub lonely : Table
+lonely =
     record {
       issued = 1;
       lasts = replicate stripeCount 0;
       locks = record { handle = handle 1; client = 0; stripe = 0; mode = 1; state = 1; number = number 0; first = 0; last = 0; mark = 0 } ∷ [];
     }
 
-single-sound : T (sound single)
+lonely-sound : T (sound lonely)
 unfolding sound room valid agree
-single-sound = tt
+lonely-sound = tt
 
-pub on-single : (m : Message) (n : ℕ) → firstHit (rules single m) ≡ n → outcome m (tableBytes single) buffer .refusal ≡ n
-on-single m n e = gets-own single m single-sound ∙ e
+pub on-lonely : (m : Message) (n : ℕ) → firstHit (rules lonely m) ≡ n → outcome m (tableBytes lonely) buffer .refusal ≡ n
+on-lonely m n e = gets-own lonely m lonely-sound ∙ e

@@ -16,6 +16,7 @@ use Rattle.locks.specs.declared.Item.{Item}
 use Rattle.locks.specs.declared.Message.{Message}
 use Rattle.locks.specs.declared.Message.the-variants.{Request, Acknowledge, Downgrade, Release}
 use Rattle.locks.specs.Refusals.{rules}
+use Rattle.locks.specs.Session.{single}
 use Rattle.locks.specs.List.{itemAt}
 use Rattle.runs.specs.Bytes.{runsOf, mapSize, soundMapBytes, soundLogBytes}
 use Rattle.stripe.specs.declared.Extent.{Extent}
@@ -172,7 +173,7 @@ itemWords (i ∷ is) = i .client ∷ i .stripe ∷ i .mode ∷ i .first ∷ i .l
 -- An input of the entry that gets the number n: 64-bit numbers, and buffers of bytes
 pub data Gets : Entry → ℕ → Type 0 where
   message : {n : ℕ} (m : Message) (table events : List ℕ)
-      → Words (fields m) → Bytes table → Bytes events → outcome m table events .refusal ≡ n → Gets (entryOf m) n
+      → T (single m) → Words (fields m) → Bytes table → Bytes events → outcome m table events .refusal ≡ n → Gets (entryOf m) n
   listing : {n : ℕ} (items : List Item) (table events : List ℕ)
       → Words (itemWords items) → Bytes table → Bytes events → listRefusal items table events ≡ n → Gets list n
   noting : {n : ℕ} (map log : List ℕ) (e : Extent) (image : ℕ)

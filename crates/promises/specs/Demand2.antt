@@ -29,6 +29,12 @@ use Rattle.promises.specs.Reasoned.{Reasoned}
 abbrev pub Rising : List Lock → Type 0
 Rising rs = T (pairs (λ a b. ltb (handleOf a) (handleOf b)) rs)
 
+-- The events of one message: "each record at most one event a call", so at most 256; grants in rising handle, then revocations in rising handle
+pub record Told (es : List Event) : Type 0 where
+  pub once : T (pairs (λ x y. not (eqb (handleOf (x .lock)) (handleOf (y .lock)))) es)
+  pub few : length es ≤ maxRecords
+  pub order : (gs rs : List Lock) × (es ≡ map grantEvent gs ++ map revocation rs) × Rising gs × Rising rs
+
 -- A call on a table that the rules have as X: it answers r, and leaves u in the table and c in the event buffer, which was b
 pub record Called (X : Table) (m : Message) (b : List ℕ) (r : Answer) (u c : List ℕ) : Type 0 where
   -- "those of the rules": the answer, the table, the events. "The bytes are what XDR says"
@@ -39,10 +45,7 @@ pub record Called (X : Table) (m : Message) (b : List ℕ) (r : Answer) (u c : L
   pub long : length c ≡ length b
   -- "the table stays sound"
   pub sound : soundTableBytes u ≡ true
-  -- "each record at most one event a call", so at most 256; grants in rising handle, then revocations in rising handle
-  pub once : T (pairs (λ x y. not (eqb (handleOf (x .lock)) (handleOf (y .lock)))) (serve X m .events))
-  pub few : length (serve X m .events) ≤ maxRecords
-  pub order : (gs rs : List Lock) × (serve X m .events ≡ map grantEvent gs ++ map revocation rs) × Rising gs × Rising rs
+  pub told : Told (serve X m .events)
   pub reasoned : serve X m .refusal ≡ 0 → Reasoned X m
 
 -- Any call on the bytes t, lent an event buffer that is long enough, goes as the rules say of the table X
@@ -64,7 +67,8 @@ pub record CalledList (X : Table) (xs : List Item) (b : List ℕ) (r : Answer) (
   pub beyond : (k : ℕ) → arraySize (length (events X (map requestOf xs))) (eventLayout width) ≤ k → getD c k 0 ≡ getD b k 0
   pub long : length c ≡ length b
   pub events : array (eventLayout width) c 0 ≡ map eventFields (events X (map requestOf xs))
-  -- an item that is accepted is granted, waits and asks back as any request does
+  -- what each item tells; an item that is accepted is granted, waits and asks back as any request does
+  pub told : (k : ℕ) → k < length xs → Told (serve (tableAfter X (map requestOf (take k xs))) (requestOf (itemAt xs k)) .events)
   pub reasoned : (k : ℕ) → k < length xs → itemAt ys k .refusal ≡ 0 → Reasoned (tableAfter X (map requestOf (take k xs))) (requestOf (itemAt xs k))
 
 abbrev pub GoesList : List ℕ → Table → Type 0
