@@ -70,7 +70,7 @@ extern "C" {
  * So answer the client only once the image's bytes are durable. Until then the write counts as cut: the
  * client keeps the piece, and sends its write again after the cut until one ran to its end.
  *
- * A message. A cut amid a call on the stored table could leave one that is not sound. So lend a copy. When
+ * A message, or a list. A cut amid a call on the stored table could leave one that is not sound. So lend a copy. When
  * the call has returned, put the new table down whole beside the old one, and turn to it by one step, as a
  * rename. Send the events only once that is durable: a grant that the table forgets would be given twice.
  *
@@ -108,7 +108,7 @@ extern "C" {
 #define GIL_MAX_CLIENTS 64      /* clients are 0 to 63 */
 #define GIL_MAX_STRIPES 16      /* stripes are 0 to 15 */
 #define GIL_MAX_RECORDS 256     /* held locks and waiting requests of a table */
-#define GIL_MAX_EVENTS 256      /* events of a call */
+#define GIL_MAX_EVENTS 256      /* events of a message */
 #define GIL_MAX_ITEMS 64        /* items of a list */
 #define GIL_MAX_LIST_EVENTS 512 /* events of a list */
 #define GIL_MAX_RUNS 1024       /* runs of a map */
@@ -254,7 +254,7 @@ static inline uint32_t gil_count(const uint8_t *array)
  * marked: their grants end where they asked, and are not widened over what other clients are going to write.
  */
 
-/* What a message answers. If refusal is not 0, the other two are 0. */
+/* What a message or a list answers. If refusal is not 0, the other two are 0. */
 typedef struct {
     uint64_t refusal; /* 0, or a GIL_REFUSED_ number */
     uint64_t handle;  /* the handle that the call made (request) or named (the others); 0 of a list */

@@ -1,4 +1,4 @@
-//! The numbers of document 01 as the proved code has them, beside those of the C header, the model and
+//! The numbers of the documents as the proved code has them, beside those of the C header, the model and
 //! the library. They are read from the `const` lines of crates/ and the `#define` lines of the header.
 
 use gilboreth_host::model::{self, list, locks, modes, runs, serve, stripe, table};
@@ -167,7 +167,7 @@ const BYTES: [Row; 13] = [
         list::LIST_EVENTS_BYTES as u64,
         Some(ListEventBuffer::BYTES as u64),
     ),
-    (&["LIST_EVENTS"], "MAX_LIST_EVENTS", list::LIST_EVENTS as u64, None),
+    (&["MAX_LIST_EVENTS"], "MAX_LIST_EVENTS", list::LIST_EVENTS as u64, None),
     (&["MAX_ITEMS"], "MAX_ITEMS", list::ITEMS as u64, None),
     (&["MAP_BYTES", "MAP_SIZE"], "MAP_BYTES", stripe::MAP_BYTES as u64, Some(Map::BYTES as u64)),
     (&["LOG_BYTES", "LOG_SIZE"], "LOG_BYTES", stripe::LOG_BYTES as u64, Some(Log::BYTES as u64)),

@@ -142,13 +142,13 @@ fn lists() {
                 let Item { client, stripe, mode, first, last, .. } = asked;
                 match serve_marked(&mut model, client, stripe, mode, first, last) {
                     Ok(accepted) => {
-                        assert_eq!(item.answered(), Ok(Handle(accepted.handle)));
+                        assert_eq!(item.answered(), Some(Ok(Handle(accepted.handle))));
                         assert_eq!(item.events, accepted.events.len() as u64);
                         let own: Vec<Event> = told.by_ref().take(item.events as usize).collect();
                         assert!(own.iter().copied().eq(accepted.events.iter().map(event)));
                     }
                     Err(number) => {
-                        assert_eq!(item.answered().unwrap_err().number(), number);
+                        assert_eq!(item.answered().unwrap().unwrap_err().number(), number);
                         assert_eq!((item.handle, item.events), (0, 0));
                     }
                 }

@@ -1,4 +1,4 @@
-// The public entries, exported to C: numbers and byte buffers in, a refusal number out. No entry has a requires.
+// The public entries, exported to C: numbers, byte buffers and items in, a refusal number out. No entry has a requires.
 pub mod lists;
 pub mod messages;
 pub mod path;

@@ -14,7 +14,7 @@ ghost use Rattle.locks.specs.List.{itemAt};
 ghost use Rattle.list.specs.Posts.{outcomeOf, ServesItem, Steps};
 
 // How many bytes a list's event buffer has at least.
-pub const LIST_EVENTS_BYTES: usize = locks::EVENTS + locks::EVENT_BYTES * locks::LIST_EVENTS;
+pub const LIST_EVENTS_BYTES: usize = locks::EVENTS + locks::EVENT_BYTES * locks::MAX_LIST_EVENTS;
 
 // Serves one item behind k events, and hands it back with its answer in it.
 fn serve_item(t: &mut [u8], b: &mut [u8], k: usize, x: Item) -> Item

@@ -9,7 +9,6 @@ use mathlib.Core.Path.{_≡_, refl, sym, ap, ap₂, subst, subst₂, _∙_}
 use lib.Dec.{T, T-not, not-T, ltb, eqb, ltb→lt, eqb→eq}
 use lib.ListN.{length, length-append, length-map}
 use lib.Seq.{append-snoc}
-use Rattle.common.specs.Ranges.{eof}
 use Rattle.common.specs.Refusals.{Rule, firstHit}
 use Rattle.common.specs.Tests.{all, any, keep, pairs}
 use Rattle.common.proofs.Bools.{and-l, and-r, and-i, by-cond, nand-l, nand-imp}

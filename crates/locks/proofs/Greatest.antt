@@ -10,7 +10,7 @@ use lib.ListN.{length, take, drop}
 use lib.Seq.{split-at}
 use Rattle.common.specs.Ranges.{eof}
 use Rattle.common.specs.Tests.{any}
-use Rattle.common.proofs.Bools.{by-cond, cond-true, cond-false}
+use Rattle.common.proofs.Bools.{by-cond, cond-false}
 use Rattle.common.proofs.Listed.{nobody}
 use Rattle.modes.specs.Codes.{granted, canceling}
 use Rattle.table.specs.declared.Lock.{Lock}
@@ -19,7 +19,7 @@ use Rattle.table.proofs.Facts.{Sound}
 use Rattle.locks.specs.Conflicts.{against, hurries}
 use Rattle.locks.specs.Settle.{Settled, given, nextNumber, widest, lastGiven, grant, free, turns}
 use Rattle.locks.proofs.Widening.{clear, taken, at-most, at-least}
-use Rattle.locks.proofs.Turn.{quiet, w-valid-here}
+use Rattle.locks.proofs.Turn.{given-exact, quiet, w-valid-here}
 use Rattle.locks.proofs.Walk.{Sounds, turns-sound}
 
 -- with the last byte l the request w conflicts with none of the records; with any later one up to EOF it conflicts with some
@@ -76,4 +76,4 @@ pub grant-exact : (lasts : List ℕ) (rs : List Lock) (w : Lock) → T (marked w
 unfolding grant
 grant-exact lasts rs w k =
     by-cond (λ (g : Lock). g .last ≡ w .last) (any (hurries w) rs) (given w canceling (nextNumber lasts w) (w .last)) (given w granted (nextNumber lasts w) (lastGiven rs w))
-    (λ u. refl) (λ u. cond-true (marked w) (w .last) (widest w eof rs) k)
+    (λ u. refl) (λ u. given-exact rs w k)

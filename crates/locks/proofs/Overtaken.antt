@@ -7,7 +7,6 @@ use mathlib.Core.Path.{subst}
 use lib.Dec.{T, T-not, not-T, eqb, ltb}
 use lib.ListN.{length}
 use lib.Seq.{append-snoc}
-use Rattle.common.specs.Ranges.{eof}
 use Rattle.common.specs.Tests.{all, any, pairs}
 use Rattle.common.proofs.Bools.{and-l, and-r, and-i, by-cond, nand-l, nand-r}
 use Rattle.common.proofs.Listed.{all-imp2, all-of, all-left, pairs-out, pairs-put, pairs-map, pairs-keep, pairs-before}

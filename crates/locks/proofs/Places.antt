@@ -8,7 +8,6 @@ use mathlib.Core.Logic.{⊎-elim}
 use mathlib.Core.Path.{_≡_, refl, ap, _∙_}
 use lib.ListN.{length, List·getD-map}
 use lib.Seq.{getD-set-same, getD-set-other}
-use Rattle.common.specs.Ranges.{eof}
 use Rattle.common.specs.Tests.{any}
 use Rattle.common.proofs.Bools.{by-cond}
 use Rattle.common.proofs.Order.{below}

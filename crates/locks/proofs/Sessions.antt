@@ -7,7 +7,6 @@ use mathlib.Core.List.{List, [], _∷_, _++_, map, map-append, append-nil}
 use mathlib.Core.Path.{_≡_, refl, sym, ap, subst, _∙_}
 use lib.Dec.{T, eqb, eqb→eq}
 use lib.ListN.{length, getD, replicate}
-use Rattle.common.specs.Ranges.{eof}
 use Rattle.common.specs.Refusals.{Rule, firstHit}
 use Rattle.common.specs.Tests.{all, any, keep, upFrom}
 use Rattle.common.proofs.Bools.{and-l, and-r, by-cond}

@@ -10,7 +10,7 @@ use lib.Dec.{T, T-not, not-T, ltb, eqb, leb→le, le→leb, ltb→lt, lt→ltb, 
 use lib.ListN.{length, getD}
 use Rattle.common.specs.Ranges.{eof}
 use Rattle.common.specs.Tests.{all, any, count, implies}
-use Rattle.common.proofs.Bools.{and-l, and-r, and-i, or-l, or-r, imp-i, imp-e, by-cond, either}
+use Rattle.common.proofs.Bools.{and-l, and-r, and-i, or-l, or-r, imp-i, imp-e, by-cond, cond-true, either}
 use Rattle.common.proofs.Listed.{all-imp, all-both, all-imp2, none, all-out, all-at, all-put, all-left, all-right, pairs-out, pairs-before, pairs-after, pairs-put, count-put, length-put}
 use Rattle.common.proofs.Order.{eq→eqb}
 use Rattle.modes.specs.Codes.{granted, canceling}
@@ -168,6 +168,10 @@ module _ (issued : ℕ) (lasts : List ℕ) (before : List Lock) (w : Lock) (afte
     where
       both : T (all (λ r. valid issued lasts r && Free w l r) (before ++ after))
       both = all-both (valid issued lasts) (Free w l) (before ++ after) others free
+
+-- A marked request is given what it asked
+pub given-exact : (rs : List Lock) (w : Lock) → T (marked w) → lastGiven rs w ≡ w .last
+given-exact rs w k = cond-true (marked w) (w .last) (widest w eof rs) k
 
 -- The turn of w: what its tests say of each record
 held-free : (w r : Lock) → T (not (obstacle w r)) → T (Free w (w .last) r)

@@ -1,4 +1,4 @@
-// Serving one message: refusals, the message's own change, settling, events. The rules are in specs/.
+// Messages and lists of requests: refusals, a message's own change, settling, events. The rules are in specs/.
 use table::MAX_RECORDS;
 use table::SHOWN_BYTES;
 
@@ -17,7 +17,7 @@ pub const EVENT_BYTES: usize = KIND_BYTES + SHOWN_BYTES;
 // How many items a list has at most, and how many events arise of it at most.
 pub const MAX_ITEMS: usize = 64;
 
-pub const LIST_EVENTS: usize = 2 * MAX_RECORDS;
+pub const MAX_LIST_EVENTS: usize = 2 * MAX_RECORDS;
 
 // A message of a client. "There are four messages, each with its own fields." A marked request's grant ends where it asked.
 pub enum Message {

@@ -1,17 +1,16 @@
 -- The outcome of a list, whatever the bytes: its number is the first hit of 1, 2 and 19, a refused one is the number alone, an accepted one leaves a
 -- sound table; and on sound bytes, with room for its events and at most 64 items, it is the rules' list.
 use Prim.Native.Nat.{ℕ, _≤_, _<_}
-use mathlib.Core.Bool.{Bool, true, false, not, _&&_, cond}
+use mathlib.Core.Bool.{Bool, true, false, not, cond}
 use mathlib.Core.List.{List, [], _∷_}
 use mathlib.Core.Logic.{inl, inr}
-use mathlib.Core.Path.{_≡_, refl, sym, ap}
+use mathlib.Core.Path.{_≡_, refl, sym}
 use lib.Dec.{T, eqb, eqb→eq}
 use lib.ListN.{length}
 use borrow.Author.Tests.{le-ltb, lt-ltb, ne-eqb}
 use Rattle.common.specs.Counters.{width}
-use Rattle.common.specs.Refusals.{firstHit}
 use Rattle.common.specs.Tests.{any}
-use Rattle.common.proofs.Bools.{and-l, and-r, undo, true-is, never}
+use Rattle.common.proofs.Bools.{and-l, and-r, undo, true-is}
 use Rattle.common.proofs.Refusals.{listed, unbroken}
 use Rattle.table.specs.Table.{Table}
 use Rattle.table.specs.Sound.{sound}

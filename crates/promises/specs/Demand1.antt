@@ -1,5 +1,5 @@
 -- DEMAND 1, for each public entry. "For every input there is an outcome, the contract allows only one, a refusal's answer is (number, 0, 0) or the
--- number alone, from the list, the first hit in the stated order, and leaves every buffer as it was. For each number 1 to 19 an input that gets it."
+-- number alone, from the list, the first hit in the stated order, and leaves every buffer as it was. For each number an input that gets it."
 use Prim.Native.Nat.{ℕ, _^_, _<_}
 use mathlib.Core.Path.{_≡_}
 use mathlib.Core.Bool.{Bool, not}
@@ -33,22 +33,22 @@ use Rattle.restart.specs.Restart.{restartAnswer, Restarts}
 abbrev pub keeps : List Rule → Bool
 keeps = all (λ r. not (r .broken))
 
-pub record FirstHit (list : List Rule) (n : ℕ) : Type 0 where
+pub record FirstHit (rows : List Rule) (n : ℕ) : Type 0 where
   pub before : List Rule
   pub hit : Rule
   pub after : List Rule
-  pub order : list ≡ before ++ (hit ∷ after)
+  pub order : rows ≡ before ++ (hit ∷ after)
   pub kept : T (keeps before)
   pub broken : T (hit .broken)
   pub number : n ≡ hit .answer
 
 -- "Accepted is 0": the call keeps them all
 abbrev pub Judged : List Rule → ℕ → Type 0
-Judged list n = ((n ≡ 0) × T (keeps list)) ⊎ FirstHit list n
+Judged rows n = ((n ≡ 0) × T (keeps rows)) ⊎ FirstHit rows n
 
 -- An entry at one input. R is what a call answers and leaves, Meets the entry's contract, `number` the refusal number that it answers;
--- `list` its rules in order and `numbers` their numbers; `refused n` the answer n with every buffer as it was
-pub record Promised {R : Type 0} (Meets : R → Type 0) (number : R → ℕ) (list : List Rule) (numbers : List ℕ) (refused : ℕ → R) : Type 0 where
+-- `rows` its rules in order and `numbers` their numbers; `refused n` the answer n with every buffer as it was
+pub record Promised {R : Type 0} (Meets : R → Type 0) (number : R → ℕ) (rows : List Rule) (numbers : List ℕ) (refused : ℕ → R) : Type 0 where
   -- "there is an outcome"
   pub some : R
   pub meets : Meets some
@@ -56,7 +56,7 @@ pub record Promised {R : Type 0} (Meets : R → Type 0) (number : R → ℕ) (li
   pub only : (x y : R) → Meets x → Meets y → x ≡ y
   -- "from the list, the first hit in the stated order"
   pub listed : (x : R) → Meets x → T (any (eqb (number x)) (0 ∷ numbers))
-  pub judged : (x : R) → Meets x → Judged list (number x)
+  pub judged : (x : R) → Meets x → Judged rows (number x)
   -- "(number, 0, 0) or the number alone, .. and leaves every buffer as it was"
   pub unchanged : (x : R) → Meets x → (number x ≡ 0 → ⊥) → x ≡ refused (number x)
 
@@ -209,6 +209,6 @@ pub record Demand1 : Type 0 where
   pub notes : (map log : List ℕ) (e : Extent) (image : ℕ) → OfNote map log e image
   pub writes : (map : List ℕ) (p : Piece) (image : List ℕ) → OfWrite map p image
   pub restarts : (map log : List ℕ) → OfRestart map log
-  -- "For each number 1 to 19 an input that gets it, so that no refusal is dead": for each number of each entry, and of an item
+  -- "For each number an input that gets it, so that no refusal is dead": for each number of each entry, so for 1 to 19, and for each of an item
   pub reached : (e : Entry) → Reached e (numbers e)
   pub items-reached : ItemsReached (3 ∷ 4 ∷ 5 ∷ 6 ∷ 7 ∷ 8 ∷ [])

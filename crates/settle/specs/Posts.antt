@@ -1,4 +1,4 @@
--- What the functions of settling promise each other. Of these only `Did` is seen outside, by the function that serves a message.
+-- What the functions of settling promise each other. Of these `Did` and `putEvents` are seen outside, by what serves a message or an item of a list.
 use Prim.Native.Nat.{ℕ, _+_, _<_}
 use mathlib.Core.Path.{_≡_}
 use mathlib.Core.Bool.{cond}

@@ -47,7 +47,7 @@ fn is_numbered(t: &[u8], l: Lock) -> bool
 }
 
 // Says whether a record's mark is one that it may have.
-fn is_marked(l: Lock) -> bool
+fn is_well_marked(l: Lock) -> bool
     ensures { λ r. ⌜ r ≡ wellMarked l ⌝ }
 {
     if l.state == WAITING {
@@ -69,7 +69,7 @@ fn is_valid(t: &[u8], issued: u64, l: Lock) -> bool
         & modes::known_mode(l.mode)
         & modes::known_state(l.state)
         & range
-        & is_marked(l);
+        & is_well_marked(l);
     if !fields {
         return false;
     }

@@ -45,7 +45,7 @@ lockFields r = shownFields r ++ r .mark ∷ []
 abbrev pub lockOf : List ℕ → Lock
 lockOf fs = withMark (shownOf fs) (getD fs 8 0)
 
--- "Table, exactly 11,336 bytes: handles issued; 16 last sequence numbers; the array of at most 256 records .."
+-- "Table, exactly 10,312 bytes: handles issued; 16 last sequence numbers; the array of at most 256 records .."; with request #101 11,336 bytes
 abbrev pub lastsLayout : ℕ → List ℕ
 lastsLayout w = replicate stripeCount w
 

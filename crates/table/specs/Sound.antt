@@ -1,4 +1,4 @@
--- "A sound table". Each rule beside the words of document 01 that it says.
+-- "A sound table". Each rule beside the words of document 01, or of request #101, that it says.
 use Prim.Native.Nat.{ℕ, _+_}
 use mathlib.Core.Bool.{Bool, not, _&&_, _||_, cond}
 use mathlib.Core.List.{List}

@@ -12,9 +12,12 @@ impl Item {
     }
 
     /// What an accepted list answered this item: its handle, or why it was refused. Its `events` is then
-    /// how many events of the list are its own.
-    pub fn answered(&self) -> Result<Handle, Refusal> {
-        accepted(self.refusal)?;
-        Ok(Handle(self.handle))
+    /// how many events of the list are its own. None of an item that no list answered yet.
+    pub fn answered(&self) -> Option<Result<Handle, Refusal>> {
+        match (accepted(self.refusal), self.handle) {
+            (Err(refusal), _) => Some(Err(refusal)),
+            (Ok(()), 0) => None,
+            (Ok(()), handle) => Some(Ok(Handle(handle))),
+        }
     }
 }

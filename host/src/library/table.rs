@@ -84,15 +84,15 @@ impl Table {
     ///     let mut items: Vec<Item> = blocks.map(ask).collect();
     ///     let granted = table.request_list(&mut events, &mut items)?;
     ///     for (item, event) in items.iter().zip(granted) {
-    ///         assert_eq!((item.answered(), event.kind), (Ok(event.record.handle), Kind::Grant));
+    ///         assert_eq!((item.answered(), event.kind), (Some(Ok(event.record.handle)), Kind::Grant));
     ///         assert_eq!((event.record.first, event.record.last), (item.first, item.last));
     ///     }
     /// }
     ///
     /// let mut items = [Item::new(0, 16, Mode::NBW, 0, 9), Item::new(0, 1, Mode::NBW, 0, 9)];
     /// table.request_list(&mut events, &mut items)?;
-    /// assert_eq!(items[0].answered(), Err(Refusal::Stripe));
-    /// assert!(items[1].answered().is_ok());
+    /// assert_eq!(items[0].answered(), Some(Err(Refusal::Stripe)));
+    /// assert!(matches!(items[1].answered(), Some(Ok(_))));
     /// # Ok::<(), Refusal>(())
     /// ```
     pub fn request_list<'e>(
