@@ -4,7 +4,7 @@ ghost use Prim.Native.Nat.{_+_, _^_, _≤_, _<_, min, max};
 ghost use lib.ListN.{length, drop};
 ghost use Rattle.xdr.specs.Be.{be, putBe};
 ghost use Rattle.common.specs.Counters.{width};
-ghost use Rattle.common.specs.Tests.{zeros};
+ghost use Rattle.common.specs.Tests.{zeros, cleared};
 
 // The last byte that a range can have.
 pub const EOF: u64 = 9223372036854775807;
@@ -68,4 +68,15 @@ pub fn is_blank(s: &[u8], from: usize) -> bool
         i += 1;
     }
     ok
+}
+
+// Stores zeros from `from` on.
+pub fn clear(s: &mut [u8], from: usize)
+    ensures { λ _. ⌜ now (s .exit) ≡ cleared from (now (s .entry)) ⌝ }
+{
+    let mut i = from;
+    while i < s.len() {
+        s[i] = 0;
+        i += 1;
+    }
 }

@@ -56,6 +56,10 @@ bytesOf w n rs = putArray (runLayout w) (replicate n 0) 0 (map runFields rs)
 unfoldable pub mapBytes : ℕ → List Run → List ℕ
 mapBytes w rs = bytesOf w (mapSize w) rs
 
+-- The bytes of a log with these entries and zeros after
+unfoldable pub logBytes : ℕ → List Run → List ℕ
+logBytes w es = bytesOf w (logSize w) es
+
 -- A log with one entry more: "the log changes only in the new entry's 20 bytes and the count"
 unfoldable pub appended : ℕ → List ℕ → Run → List ℕ
 appended w log r = putBe 4 (putFields (runLayout w) log (runsEnd w log) 0 (runFields r)) 0 (be 4 log 0 + 1)

@@ -1,4 +1,5 @@
--- What note, write and restart refuse: document 01, "Refusal numbers", 12 to 18, each list in the order in which it is judged.
+-- What note, write, restart and compaction refuse: document 01, "Refusal numbers", 12 to 18, and document 02, #102; each list in the order in which
+-- it is judged.
 use Prim.Native.Nat.{ℕ, zero, suc, pred, _+_}
 use mathlib.Core.Bool.{Bool, false, not, _||_}
 use mathlib.Core.List.{List, [], _∷_}
@@ -52,5 +53,12 @@ abbrev pub restartRules : Bool → Bool → List Run → List Rule
 restartRules mapFits logSound log =
     rule 12 (not mapFits)
     ∷ rule 13 (not logSound)
+    ∷ rule 16 (ltb maxRuns (length (mapOf log)))
+    ∷ []
+
+-- Compaction: "13 for either buffer's length or an unsound old log, then 16". A sound log has its length
+abbrev pub compactRules : Bool → Bool → List Run → List Rule
+compactRules newFits logSound log =
+    rule 13 (not newFits || not logSound)
     ∷ rule 16 (ltb maxRuns (length (mapOf log)))
     ∷ []

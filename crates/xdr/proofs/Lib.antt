@@ -4,3 +4,4 @@ pub mod Tabs
 pub mod Elements
 pub mod Arrays
 pub mod Appends
+pub mod Fronts
