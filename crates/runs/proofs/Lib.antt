@@ -5,6 +5,7 @@ pub mod Join
 pub mod Draw
 pub mod Unique
 pub mod Fewer
+pub mod Borders
 pub mod Valid
 pub mod Sound
 pub mod Blank

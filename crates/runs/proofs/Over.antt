@@ -43,10 +43,15 @@ pub owner-after : (r : Run) (rs : List Run) (b : ℕ) → r .last < b → owner 
 unfolding owner
 owner-after r rs b h = omega (arith, over-after r b h)
 
+-- of two lists one after the other the greater age holds
+pub owner-append : (es ds : List Run) (b : ℕ) → owner (es ++ ds) b ≡ max (owner es b) (owner ds b)
+unfolding owner
+owner-append [] ds b = omega arith
+owner-append (e ∷ es) ds b = omega (arith, owner-append es ds b)
+
 pub owner-snoc : (es : List Run) (r : Run) (b : ℕ) → owner (es ++ r ∷ []) b ≡ max (over r b) (owner es b)
 unfolding owner
-owner-snoc [] r b = refl
-owner-snoc (e ∷ es) r b = omega (arith, owner-snoc es r b)
+owner-snoc es r b = omega (arith, owner-append es (r ∷ []) b)
 
 -- no entry is over a byte from the end on
 pub owner-end : (es : List Run) (b : ℕ) → end es ≤ b → owner es b ≡ 0
