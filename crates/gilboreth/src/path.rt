@@ -1,10 +1,11 @@
-// The note-and-write path of one stripe: note, write, restart.
+// The note-and-write path of one stripe: note, write, restart, compact.
 use common::Number;
 use stripe::Extent;
 ghost use Rattle.stripe.specs.Piece.{extent, piece};
 ghost use Rattle.note.specs.Note.{Notes};
 ghost use Rattle.write.specs.Write.{Writes};
 ghost use Rattle.restart.specs.Restart.{Restarts};
+ghost use Rattle.compact.specs.Compact.{Compacts};
 
 // Notes a piece: appends its entry to the log, and raises the map by it.
 #[no_mangle]
@@ -46,4 +47,12 @@ pub extern "C" fn gil_restart(map: &mut [u8], log: &[u8]) -> u64
     ensures { λ r. ⌜ Restarts (now (map .entry)) (now (log .entry)) r (now (map .exit)) ⌝ }
 {
     restart::restart(map, log)
+}
+
+// Fills a second log with the runs of the log's map.
+#[no_mangle]
+pub extern "C" fn gil_compact(old: &[u8], new: &mut [u8]) -> u64
+    ensures { λ r. ⌜ Compacts (now (old .entry)) (now (new .entry)) r (now (new .exit)) ⌝ }
+{
+    compact::compact(old, new)
 }

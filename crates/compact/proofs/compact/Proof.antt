@@ -1,75 +1,44 @@
+-- `compact`: each answer is the first rule that is broken, and the second log is the map that is drawn in scratch, with zeros behind it.
+use Prim.Native.Nat.{ℕ}
+use lib.ListN.{length-replicate}
+use mathlib.Core.Path.{sym, _∙_}
 use borrow.Author.Needs.{needs}
+use borrow.Author.Tests.{not-false}
+use Rattle.common.specs.Counters.{width}
+use Rattle.runs.specs.Bytes.{mapSize}
+use Rattle.compact.proofs.Compacting.{compact-13, compact-unsound, compact-16, compact-0}
 use Rattle.compact.proofs.compact.Statement.{statement}
 use Rattle.compact.proofs.compact.Tie as tie
-use Rattle.compact.proofs.compact.Reads as reads
-use Rattle.compact.proofs.compact.Lts as lts
-use Rattle.bytes.proofs.copy.Reads as copy-reads
-use Rattle.common.proofs.clear.Reads as clear-reads
-use Rattle.rebuild.proofs.rebuilt.Reads as rebuilt-reads
-use Rattle.runbytes.proofs.log_sound.Reads as log-sound-reads
-use Rattle.runbytes.proofs.put_count.Reads as put-count-reads
 
--- src/lib.rt:10:9
-returns : tie.Need-returns
-returns c = ?
-
--- src/lib.rt:12:9
-log-sound-requires : tie.Need-log-sound-requires
-log-sound-requires c κs = search needs
-
--- src/lib.rt:13:9
-returns-2 : tie.Need-returns-2
-returns-2 c = ?
-
--- src/lib.rt:16:36
-slice-aggregate-rebuilt : tie.Need-slice-aggregate-rebuilt
-slice-aggregate-rebuilt c = search needs
-
--- src/lib.rt:16:9
 rebuilt-requires : tie.Need-rebuilt-requires
-rebuilt-requires c κs = ?
+rebuilt-requires c κs = (length-replicate {A = ℕ} (mapSize width) 0, sym (c .before .before .log-sound .ensures) ∙ not-false _ (c .before .if2 .left))
 
--- src/lib.rt:18:9
 returns-3 : tie.Need-returns-3
-returns-3 c = ?
+returns-3 c =
+    let l = c .before .before .before .before in
+    compact-16 _ _ (l .before .before .if1 .left) _ (l .before .log-sound .ensures) (l .if2 .left) _ _ (c .before .before .rebuilt .ensures) (c .if3 .taken)
 
--- src/lib.rt:20:17
-slice-aggregate-copy : tie.Need-slice-aggregate-copy
-slice-aggregate-copy c = search needs
-
--- src/lib.rt:20:5
-copy-requires : tie.Need-copy-requires
-copy-requires c κs = search needs
-
--- src/lib.rt:21:5
-clear-requires : tie.Need-clear-requires
-clear-requires c κs = search needs
-
--- src/lib.rt:22:5
-put-count-requires : tie.Need-put-count-requires
-put-count-requires c κs = search needs
-
--- src/lib.rt:6:1
-same-length : tie.Need-same-length
-same-length c = search needs
-
--- src/lib.rt:6:1
 returns-4 : tie.Need-returns-4
-returns-4 c = ?
+returns-4 c =
+    let k = c .before .before .before .before .before .before .before .before .before .before in
+    let r = k .before .before .before in
+    let l = r .before .before .before .before in
+    compact-0 _ _ (l .before .before .if1 .left) _ (l .before .log-sound .ensures) (l .if2 .left) _ _ (r .before .before .rebuilt .ensures) (r .if3 .left) _
+    (rw (c .before .before .put-count .ensures, c .before .before .before .before .before .before .clear .ensures, k .copy .ensures .1))
 
 pub compact-spec : {M : Type 1} → statement M
 compact-spec =
     tie.close
     (tie.spec
-    returns
-    log-sound-requires
-    returns-2
-    slice-aggregate-rebuilt
+    (λ c. compact-13 _ _ (c .if1 .taken))
+    (search needs)
+    (λ c. compact-unsound _ _ (c .before .before .if1 .left) _ (c .before .log-sound .ensures) (c .if2 .taken))
+    (search needs)
     rebuilt-requires
     returns-3
-    slice-aggregate-copy
-    copy-requires
-    clear-requires
-    put-count-requires
-    same-length
+    (search needs)
+    (search needs)
+    (search needs)
+    (search needs)
+    (search needs)
     returns-4)
