@@ -11,10 +11,11 @@ use Rattle.common.proofs.Bools.{never}
 use Rattle.common.proofs.Order.{same}
 use Rattle.runs.specs.declared.Run.{Run}
 use Rattle.runs.specs.Owner.{owner}
+use Rattle.runs.proofs.Draw.{map-owner}
 use Rattle.promises.specs.Run.{Piece, ageOf, Covers, byteOf, Stripe, Write}
 use Rattle.promises.specs.Demand3.{HasWrite, Finished}
 use Rattle.promises.proofs.Carried.{entriesOf}
-use Rattle.promises.proofs.Views.{covered, Wrote, View, quiet, new, wrote}
+use Rattle.promises.proofs.Views.{covered, Wrote, View, quiet, new, wrote, turned}
 
 -- the bytes of one place b, whose age at the end is N
 abbrev pub Start : ℕ → ℕ → ℕ → Stripe → List Write → Type 0
@@ -73,13 +74,15 @@ stepped b N v s s′ p false rest W f e k n o = inr (p, f refl, k, n)
 
 -- what is known of b goes on being known
 pub step :
-    (b N v : ℕ) (s s′ : Stripe) (ns : List Piece) (ws rest : List Write) → View s s′ ns ws → owner (entriesOf s′) b ≤ N → Finished (ws ++ rest)
+    (b N v : ℕ) (s s′ : Stripe) (t : Bool) (ns : List Piece) (ws rest : List Write) → View s s′ t ns ws → owner (entriesOf s′) b ≤ N → Finished (ws ++ rest)
     → ((q : Piece) → HasWrite q (ws ++ rest) → Covers q b → ageOf q ≡ N → byteOf q b ≡ v) → Start b N v s (ws ++ rest) → Start b N v s′ rest
-step b N v s s′ ns ws rest (quiet i o) n f a (inl w) = inl (ap (λ (x : List ℕ). getD x b 0) i ∙ w .0, ap (λ (l : List Run). owner l b) o ∙ w .1)
-step b N v s s′ ns ws rest (quiet i o) n f a (inr w) = inr w
-step b N v s s′ ns ws rest (new p i l o) n f a (inl w) = inl (ap (λ (x : List ℕ). getD x b 0) i ∙ w .0, omega (arith, o b, w .1))
-step b N v s s′ ns ws rest (new p i l o) n f a (inr w) = inr w
-step b N v s s′ ns ws rest (wrote p c W) n f a (inl w) =
+step b N v s s′ t ns ws rest (quiet i o) n f a (inl w) = inl (ap (λ (x : List ℕ). getD x b 0) i ∙ w .0, ap (λ (l : List Run). owner l b) o ∙ w .1)
+step b N v s s′ t ns ws rest (quiet i o) n f a (inr w) = inr w
+step b N v s s′ t ns ws rest (turned i o) n f a (inl w) = inl (ap (λ (x : List ℕ). getD x b 0) i ∙ w .0, ap (λ (l : List Run). owner l b) o ∙ map-owner (entriesOf s) b ∙ w .1)
+step b N v s s′ t ns ws rest (turned i o) n f a (inr w) = inr w
+step b N v s s′ t ns ws rest (new p i l o) n f a (inl w) = inl (ap (λ (x : List ℕ). getD x b 0) i ∙ w .0, omega (arith, o b, w .1))
+step b N v s s′ t ns ws rest (new p i l o) n f a (inr w) = inr w
+step b N v s s′ t ns ws rest (wrote p c W) n f a (inl w) =
     ⊎-elim
     (λ (k : Covers p b). ⊎-elim
     (λ (o : owner (entriesOf s) b ≡ ageOf p).
@@ -92,7 +95,7 @@ step b N v s s′ ns ws rest (wrote p c W) n f a (inl w) =
   where
     stay : (Covers p b → owner (entriesOf s) b ≡ ageOf p → ⊥) → Start b N v s′ rest
     stay h = inl (W .kept b h ∙ w .0, ap (λ (l : List Run). owner l b) (W .log) ∙ w .1)
-step b N v s s′ ns ws rest (wrote p c W) n f a (inr w) =
+step b N v s s′ t ns ws rest (wrote p c W) n f a (inr w) =
     ⊎-elim
     (λ (e : w .0 ≡ p).
     let k : Covers p b = subst (λ (q : Piece). Covers q b) e (w .2) in

@@ -22,7 +22,7 @@ use Rattle.stripe.specs.Stripe as rules
 use Rattle.stripe.specs.Stripe.{note, write, answer, noted, wrote, written}
 use Rattle.note.specs.Note.{noteAnswer, noteMap, noteLog}
 use Rattle.write.specs.Write.{writeAnswer, writeImage}
-use Rattle.promises.specs.Run.{Piece, extentOf, ageOf, live, Stripe, next, afterNote, afterWrite}
+use Rattle.promises.specs.Run.{Piece, extentOf, ageOf, live, none, Stripe, next, afterNote, afterWrite}
 use Rattle.promises.specs.Run as run
 use Rattle.promises.specs.Examples.{Call, noting, writing}
 use Rattle.promises.specs.Examples as examples
@@ -31,7 +31,7 @@ use Rattle.promises.proofs.Carried as c
 use Rattle.promises.proofs.Carried.{Carried, carried, same-log, same-map}
 
 abbrev stripe : List ℕ → List ℕ → List ℕ → Stripe
-stripe m log image = record { map = live m; log = log; image = image }
+stripe m log image = record { map = live m; log = log; second = none; image = image }
 
 -- what the buffers say
 abbrev pub decoded : Stripe → rules.Stripe

@@ -1,6 +1,7 @@
 -- DEMAND 3. "Take any pieces for a stripe, noted and written in any order and any number of times, with cuts anywhere, a restart after each. Suppose
 -- pieces of equal number agree where they overlap, each noted piece had a write accepted, and the last accepted write of every piece ran to its end.
--- Then each byte under a noted piece is that of the noted piece with the greatest number there, and every other byte is as it began."
+-- Then each byte under a noted piece is that of the noted piece with the greatest number there, and every other byte is as it began." Document 02,
+-- #102: "demand 3 now has this call among its steps".
 use Prim.Native.Nat.{ℕ, _≤_}
 use mathlib.Core.Path.{_≡_}
 use mathlib.Core.Logic.{_⊎_}
@@ -8,11 +9,14 @@ use mathlib.Core.Bool.{true}
 use mathlib.Core.List.{List, [], _∷_, map}
 use lib.ListN.{length, getD}
 use Rattle.common.specs.Counters.{width}
+use Rattle.runs.specs.declared.Run.{Run}
+use Rattle.runs.specs.Owner.{owner}
 use Rattle.runs.specs.Map.{mapOf}
-use Rattle.runs.specs.Bytes.{runsOf, mapSize, soundMapBytes, mapBytes}
+use Rattle.runs.specs.Bytes.{runsOf, mapSize, logSize, soundMapBytes, mapBytes, logBytes}
 use Rattle.restart.specs.Restart.{restartAnswer}
+use Rattle.compact.specs.Compact.{compactAnswer}
 use Rattle.promises.specs.Among.{Among}
-use Rattle.promises.specs.Run.{Piece, ageOf, Covers, byteOf, placeOf, Map, lost, live, Stripe, EmptyLog, begin, Step, after, noted, Write, accepted}
+use Rattle.promises.specs.Run.{Piece, ageOf, Covers, byteOf, placeOf, Map, lost, live, Second, none, ready, Stripe, EmptyLog, begin, Step, after, noted, Write, accepted, entries}
 
 abbrev pub HasWrite : Piece → List Write → Type 0
 HasWrite p [] = ⊥
@@ -45,16 +49,26 @@ Demand3 =
     → Finished (accepted (begin log image) es)
     → Kept (noted (begin log image) es) image (after (begin log image) es .image)
 
--- With it: "in every run the map is the log's map, and no restart is refused". The log has the entries of the noted pieces, in note order. While the
--- map is not lost it is sound, and to the byte what a restart fills in; a restart is lent a buffer of the map's length
+-- With it: "in every run the map is the log's map, and no restart is refused". The log has the entries of the noted pieces, in note order, and where the
+-- daemon turned, the runs of their map: so it says of every byte what the noted pieces say. While the map is not lost it is sound, and to the byte what
+-- a restart fills in, and a second log is to the byte what a compaction fills in; restart and compaction are lent a buffer of the right length
 abbrev pub LogsMap : Map → List ℕ → Type 0
 LogsMap lost log = Unit {0}
 LogsMap (live m) log = (soundMapBytes m ≡ true) × (m ≡ mapBytes width (mapOf (runsOf width log)))
 
-pub record Steady (ps : List Piece) (s : Stripe) : Type 0 where
-  pub log : runsOf width (s .log) ≡ map placeOf ps
+abbrev pub SecondLog : Second → List ℕ → Type 0
+SecondLog none log = Unit {0}
+SecondLog (ready n) log = n ≡ logBytes width (mapOf (runsOf width log))
+
+pub record Steady (ps : List Piece) (rs : List Run) (s : Stripe) : Type 0 where
+  pub log : runsOf width (s .log) ≡ rs
+  pub says : (b : ℕ) → owner (runsOf width (s .log)) b ≡ owner (map placeOf ps) b
   pub map : LogsMap (s .map) (s .log)
+  pub second : SecondLog (s .second) (s .log)
   pub restarts : (buffer : List ℕ) → length buffer ≡ mapSize width → restartAnswer buffer (s .log) ≡ 0
+  pub compacts : (buffer : List ℕ) → length buffer ≡ logSize width → compactAnswer (s .log) buffer ≡ 0
 
 abbrev pub Always : Type 0
-Always = (log image : List ℕ) (es : List Step) → EmptyLog log → Steady (noted (begin log image) es) (after (begin log image) es)
+Always =
+    (log image : List ℕ) (es : List Step) → EmptyLog log
+    → Steady (noted (begin log image) es) (entries [] (begin log image) es) (after (begin log image) es)

@@ -1,4 +1,4 @@
--- The bytes of a log with one entry more say one entry more, and the bytes past a log's entries say nothing.
+-- The bytes of a log with these entries say them; with one entry more they say one entry more; and the bytes past a log's entries say nothing.
 use Prim.Native.Nat.{ℕ, suc, _+_, _≤_, _<_}
 use native.Mathlib.Omega.{arith}
 use native.Mathlib.Numerals.{add-one}
@@ -6,24 +6,26 @@ use mathlib.Core.Bool.{true, _&&_}
 use mathlib.Core.List.{List, [], _∷_, _++_, map, map-append}
 use mathlib.Core.Path.{_≡_, refl, sym, ap, subst, _∙_}
 use lib.Dec.{eqb}
-use lib.ListN.{length, getD, length-append, length-map}
+use lib.ListN.{length, getD, drop, length-append, length-map}
 use borrow.Author.Tests.{eq-eqb, eqb-true}
 use Rattle.common.specs.Counters.{width}
+use Rattle.common.specs.Tests.{zeros}
 use Rattle.common.proofs.Bools.{and-left, and-right}
 use Rattle.xdr.specs.Be.{be, putBe}
 use Rattle.xdr.specs.Layout.{fields, putFields, size, Fit}
-use Rattle.xdr.specs.Array.{array}
+use Rattle.xdr.specs.Array.{array, Fits}
 use Rattle.xdr.specs.Tab.{tab}
 use Rattle.xdr.proofs.Numbers.{be-put-same, put-length, put-other}
 use Rattle.xdr.proofs.Fields.{fields-ext, fields-put, put-fields-length, put-fields-other}
 use Rattle.xdr.proofs.Tabs.{tab-ext, tab-snoc, length-tab}
 use Rattle.xdr.proofs.Arrays.{fields-put-count, array-ext}
 use Rattle.runs.specs.declared.Run.{Run}
-use Rattle.runs.specs.Sound.{maxEntries, soundLog}
+use Rattle.runs.specs.Sound.{maxEntries, allValid, soundLog}
 use Rattle.runs.specs.Valid.{Valid}
-use Rattle.runs.specs.Bytes.{runLayout, runOf, runFields, runsOf, logSize, runPlace, runsEnd, soundLogBytes, appended}
+use Rattle.runs.specs.Bytes.{runLayout, runOf, runFields, runsOf, logSize, runPlace, runsEnd, soundLogBytes, logBytes, appended}
 use Rattle.runs.proofs.Valid.{valid-snoc}
 use Rattle.runs.proofs.Sound.{SoundLog, log-is, is-log}
+use Rattle.runs.proofs.MapBytes.{bytes-length, bytes-back, bytes-tail}
 
 -- What a sound log's bytes have
 pub record LogBytes (log : List ℕ) : Type 0 where
@@ -41,6 +43,22 @@ log-bytes log e =
 pub bytes-log : (log : List ℕ) → LogBytes log → soundLogBytes log ≡ true
 unfolding soundLogBytes
 bytes-log log b = rw (eq-eqb (length log) (logSize width) (b .long), b .sound)
+
+-- A log with these entries and zeros after
+module _ (es : List Run) (fit : Fits (runLayout width) (map runFields es)) (good : allValid es ≡ true) (few : length es ≤ maxEntries) where
+  pub entries-back : runsOf width (logBytes width es) ≡ es
+  unfolding logBytes
+  entries-back = bytes-back (logSize width) es fit (omega arith) (omega arith)
+
+  pub entries-sound : soundLogBytes (logBytes width es) ≡ true
+  unfolding logBytes
+  entries-sound =
+      bytes-log (logBytes width es)
+      (record { long = bytes-length (logSize width) es fit (omega arith) (omega arith); sound = rw entries-back (is-log es (record { few = few; good = good })) })
+
+  pub entries-tail : zeros (drop (runsEnd width (logBytes width es)) (logBytes width es)) ≡ true
+  unfolding logBytes
+  entries-tail = bytes-tail (logSize width) es fit (omega arith) (omega arith)
 
 -- the fields of entry i; how many entries there are
 abbrev entry : List ℕ → ℕ → List ℕ

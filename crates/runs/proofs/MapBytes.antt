@@ -71,8 +71,8 @@ module _ (n : ℕ) (rs : List Run) (fit : Fits (runLayout width) (map runFields 
 
 -- The bytes of a sound map are a sound map's, and say it
 module _ (rs : List Run) (s : soundMap rs ≡ true) (h : (b : ℕ) → owner rs b ≤ highestAge) where
-  fit : Fits (runLayout width) (map runFields rs)
-  fit = runs-fit (sound-canon rs s) (sound-is rs s .good) h
+  pub map-fits : Fits (runLayout width) (map runFields rs)
+  map-fits = runs-fit (sound-canon rs s) (sound-is rs s .good) h
 
   room : arraySize (length rs) (runLayout width) ≤ mapSize width
   room = let f = sound-is rs s .few in omega arith
@@ -82,13 +82,13 @@ module _ (rs : List Run) (s : soundMap rs ≡ true) (h : (b : ℕ) → owner rs 
 
   pub map-back : runsOf width (mapBytes width rs) ≡ rs
   unfolding mapBytes
-  map-back = bytes-back (mapSize width) rs fit room few
+  map-back = bytes-back (mapSize width) rs map-fits room few
 
   pub map-back-sound : soundMapBytes (mapBytes width rs) ≡ true
   unfolding soundMapBytes mapBytes
   map-back-sound =
-      rw (eq-eqb (length (bytesOf width (mapSize width) rs)) (mapSize width) (bytes-length (mapSize width) rs fit room few), bytes-back (mapSize width) rs fit room few, s)
-      (bytes-tail (mapSize width) rs fit room few)
+      rw (eq-eqb (length (bytesOf width (mapSize width) rs)) (mapSize width) (bytes-length (mapSize width) rs map-fits room few), bytes-back (mapSize width) rs map-fits room few, s)
+      (bytes-tail (mapSize width) rs map-fits room few)
 
 -- What a sound map's bytes say is a sound map
 pub map-runs : (m : List ℕ) → soundMapBytes m ≡ true → soundMap (runsOf width m) ≡ true

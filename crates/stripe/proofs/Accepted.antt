@@ -1,13 +1,13 @@
--- A call that is not refused breaks no rule: what an accepted note, write and restart know.
+-- A call that is not refused breaks no rule: what an accepted note, write, restart and compaction know.
 use Prim.Native.Nat.{ℕ, zero, suc, pred, _+_, _≤_, _<_}
 use mathlib.Core.Path.{_≡_, subst}
 use mathlib.Core.Logic.{⊎-elim}
-use mathlib.Core.Bool.{Bool, true, false}
+use mathlib.Core.Bool.{Bool, true, false, not, _||_}
 use mathlib.Core.List.{List}
 use native.Mathlib.Omega.{arith}
 use lib.Dec.{T}
 use lib.ListN.{length}
-use borrow.Author.Tests.{ltb-false, leb-false, lt-ltb, le-ltb}
+use borrow.Author.Tests.{ltb-false, leb-false, lt-ltb, le-ltb, not-false}
 use Rattle.common.specs.Ranges.{eof}
 use Rattle.common.specs.Refusals.{Rule, firstHit}
 use Rattle.common.proofs.Bools.{and-l, and-r, or-left, or-right, undo, true-is, false-is}
@@ -22,7 +22,7 @@ use Rattle.runs.proofs.Ages.{highestAge, sane-pos, sane-exact}
 use Rattle.runs.specs.Valid.{Valid}
 use Rattle.stripe.specs.declared.Extent.{Extent}
 use Rattle.stripe.specs.Piece.{place}
-use Rattle.stripe.specs.Refusals.{misplaced, misnumbered, behind, noteRules, writeRules, restartRules}
+use Rattle.stripe.specs.Refusals.{misplaced, misnumbered, behind, noteRules, writeRules, restartRules, compactRules}
 
 -- Refusal 14
 pub record Placed (e : Extent) (image : ℕ) : Type 0 where
@@ -113,3 +113,21 @@ restart-facts m l log e =
 
 pub facts-restart : (mapFits logSound : Bool) (log : List Run) → RestartFacts mapFits logSound log → firstHit (restartRules mapFits logSound log) ≡ 0
 facts-restart m l log k = rw (k .mapped, k .logged, le-ltb maxRuns (length (mapOf log)) (k .few))
+
+pub record CompactFacts (newFits logSound : Bool) (log : List Run) : Type 0 where
+  pub fits : newFits ≡ true
+  pub logged : logSound ≡ true
+  pub few : length (mapOf log) ≤ maxRuns
+
+pub compact-facts : (newFits logSound : Bool) (log : List Run) → firstHit (compactRules newFits logSound log) ≡ 0 → CompactFacts newFits logSound log
+compact-facts n l log e =
+    let k = all-kept (compactRules n l log) tt e in
+    let b : (not n || not l) ≡ false = search reading depth 12 in
+    record {
+      fits = not-false n (or-left (not n) (not l) b);
+      logged = not-false l (or-right (not n) (not l) b);
+      few = search reading depth 12;
+    }
+
+pub facts-compact : (newFits logSound : Bool) (log : List Run) → CompactFacts newFits logSound log → firstHit (compactRules newFits logSound log) ≡ 0
+facts-compact n l log k = rw (k .fits, k .logged, le-ltb maxRuns (length (mapOf log)) (k .few))
