@@ -17,7 +17,7 @@ use Rattle.table.proofs.Encoding.{tableBytes, table-bytes}
 use Rattle.table.proofs.Zeros.{empty-sound}
 use Rattle.runs.specs.declared.Run.{Run}
 use Rattle.runs.specs.Sound.{maxEntries}
-use Rattle.runs.specs.Bytes.{runLayout, runFields, mapSize, logSize, bytesOf, mapBytes}
+use Rattle.runs.specs.Bytes.{runLayout, runFields, mapSize, logSize, bytesOf, mapBytes, logBytes}
 use Rattle.locks.specs.declared.Item.{Item}
 use Rattle.locks.specs.declared.Message.{Message}
 use Rattle.locks.specs.declared.Message.the-variants.{Request, Acknowledge, Downgrade, Release}
@@ -27,13 +27,13 @@ use Rattle.locks.specs.Session.{single}
 use Rattle.locks.specs.List.{noItem, requestOf, listEventsSize}
 use Rattle.message.specs.Messages.{outcome}
 use Rattle.stripe.specs.Piece.{extent, piece}
-use Rattle.promises.specs.Demand1.{Entry, request, acknowledge, downgrade, release, list, note, write, restart, numbers, entryOf}
-use Rattle.promises.specs.Demand1.{Words, fields, itemWords, Gets, message, listing, noting, writing, restarting, Reached, ItemGets, ItemsReached, Demand1}
-use Rattle.promises.proofs.Determined.{of-message, of-list, of-note, of-write, of-restart}
+use Rattle.promises.specs.Demand1.{Entry, request, acknowledge, downgrade, release, list, note, write, restart, compact, numbers, entryOf}
+use Rattle.promises.specs.Demand1.{Words, fields, itemWords, Gets, message, listing, noting, writing, restarting, compacting, Reached, ItemGets, ItemsReached, Demand1}
+use Rattle.promises.proofs.Determined.{of-message, of-list, of-note, of-write, of-restart, of-compact}
 use Rattle.promises.proofs.Spaced.{spaced}
 use Rattle.promises.proofs.Reached.{buffer, no-events, another-length, on-empty, spent, spent-sound, none-left, queued, queued-sound, crowded, no-room, lonely, on-lonely}
 use Rattle.promises.proofs.Reached.{list-buffer, list-no-events, list-no-table, too-many, lets-through, item-gets}
-use Rattle.promises.proofs.StripeReached.{map0, log0, one, logged, note-12, note-13, note-14, note-15, note-16, note-17, write-12, write-14, write-15, write-18, restart-12, restart-13, restart-16}
+use Rattle.promises.proofs.StripeReached.{map0, log0, one, note-12, note-13, note-14, note-15, note-16, note-17, write-12, write-14, write-15, write-18, restart-12, restart-13, restart-16, compact-13, compact-16}
 
 -- one input after the other
 infixr 5 _also_
@@ -50,9 +50,9 @@ map-bytes : (rs : List Run) → Bytes (mapBytes width rs)
 unfolding mapBytes
 map-bytes rs = runs-bytes (mapSize width) rs
 
-logged-bytes : (es : List Run) → Bytes (logged es)
-unfolding logged
-logged-bytes es = runs-bytes (logSize width) es
+log-bytes : (es : List Run) → Bytes (logBytes width es)
+unfolding logBytes
+log-bytes es = runs-bytes (logSize width) es
 
 -- A message on no table, on the empty table, on a table
 module _ (m : Message) (i : T (single m)) (f : Words (fields m)) where
@@ -123,7 +123,7 @@ reached note =
     also noting map0 log0 (extent 0 0 1) 1 tt map0-bytes log0-bytes note-14
     also noting map0 log0 (extent 0 1 0) 1 tt map0-bytes log0-bytes note-15
     also noting (mapBytes width (spaced 1 1024)) log0 (extent 2049 1 1) 2050 tt (map-bytes (spaced 1 1024)) log0-bytes note-16
-    also noting map0 (logged (replicate maxEntries one)) (extent 0 1 1) 1 tt map0-bytes (logged-bytes (replicate maxEntries one)) note-17
+    also noting map0 (logBytes width (replicate maxEntries one)) (extent 0 1 1) 1 tt map0-bytes (log-bytes (replicate maxEntries one)) note-17
     also tt
 reached write =
     writing [] (piece 0 (0 ∷ []) 1) (0 ∷ []) tt no-bytes (blank-bytes 1) (blank-bytes 1) write-12
@@ -134,7 +134,11 @@ reached write =
 reached restart =
     restarting [] [] no-bytes no-bytes restart-12
     also restarting map0 [] map0-bytes no-bytes restart-13
-    also restarting map0 (logged (spaced 1 1025)) map0-bytes (logged-bytes (spaced 1 1025)) restart-16
+    also restarting map0 (logBytes width (spaced 1 1025)) map0-bytes (log-bytes (spaced 1 1025)) restart-16
+    also tt
+reached compact =
+    compacting [] [] no-bytes no-bytes compact-13
+    also compacting (logBytes width (spaced 1 1025)) log0 (log-bytes (spaced 1 1025)) log0-bytes compact-16
     also tt
 
 -- A list of one item on a table
@@ -167,4 +171,13 @@ items-reached =
     also tt
 
 pub demand1 : Demand1
-demand1 = record { messages = of-message; lists = of-list; notes = of-note; writes = of-write; restarts = of-restart; reached = reached; items-reached = items-reached }
+demand1 = record {
+  messages = of-message;
+  lists = of-list;
+  notes = of-note;
+  writes = of-write;
+  restarts = of-restart;
+  compactions = of-compact;
+  reached = reached;
+  items-reached = items-reached;
+}

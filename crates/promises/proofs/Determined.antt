@@ -1,5 +1,5 @@
 -- Demand 1 of each entry at any input. A message, and a list: what it leaves is the encoded table where it is accepted, and a table has one spelling in bytes.
--- Note, write and restart: their contracts are equations.
+-- Note, write, restart and compaction: their contracts are equations.
 use Prim.Native.Nat.{ℕ}
 use mathlib.Core.Bool.{Bool, true, false, cond}
 use mathlib.Core.List.{List, _++_}
@@ -31,10 +31,11 @@ use Rattle.stripe.specs.Piece.{Piece, extentOf}
 use Rattle.note.specs.Note.{noteAnswer, noteMap, noteLog}
 use Rattle.write.specs.Write.{writeAnswer, writeImage}
 use Rattle.restart.specs.Restart.{restartAnswer, restartMap}
-use Rattle.promises.specs.Demand1.{Judged, Served, ListServed, OfMessage, OfList, OfNote, OfWrite, OfRestart}
+use Rattle.compact.specs.Compact.{compactAnswer, compactLog}
+use Rattle.promises.specs.Demand1.{Judged, Served, ListServed, OfMessage, OfList, OfNote, OfWrite, OfRestart, OfCompact}
 use Rattle.promises.proofs.Outcomes.{judged, Alone, outcome-hit, outcome-alone, outcome-sound, outcome-listed}
 use Rattle.promises.proofs.Lists.{list-hit, list-alone, list-leaves-sound, list-listed, items-stay}
-use Rattle.promises.proofs.StripeRefusals.{note-listed, write-listed, restart-listed, note-refused, write-refused, restart-refused}
+use Rattle.promises.proofs.StripeRefusals.{note-listed, write-listed, restart-listed, compact-listed, note-refused, write-refused, restart-refused, compact-refused}
 
 -- What a call on the lock table leaves, by its outcome o
 abbrev Meets : Outcome → List ℕ → List ℕ → Served → Type 0
@@ -169,4 +170,15 @@ of-restart m l = record {
   listed = λ a p. rw (p .answers) (restart-listed m l);
   judged = λ a p. rw (p .answers) (judged _);
   unchanged = λ a p h. let r = restart-refused m l (λ e. h (p .answers ∙ e)) in λ k. record { answer = a .answer; map = (p .map ∙ r) k };
+}
+
+pub of-compact : (l n : List ℕ) → OfCompact l n
+unfolding compactAnswer
+of-compact l n = record {
+  some = record { answer = compactAnswer l n; log = compactLog l n };
+  meets = record { answers = refl; log = refl };
+  only = λ a b p q k. record { answer = (p .answers ∙ sym (q .answers)) k; log = (p .log ∙ sym (q .log)) k };
+  listed = λ a p. rw (p .answers) (compact-listed l n);
+  judged = λ a p. rw (p .answers) (judged _);
+  unchanged = λ a p h. let r = compact-refused l n (λ e. h (p .answers ∙ e)) in λ k. record { answer = a .answer; log = (p .log ∙ r) k };
 }

@@ -1,4 +1,4 @@
--- No refusal of note, write and restart is dead: for each number an input in bytes that gets it. The thought: runs of one byte with a byte between
+-- No refusal of note, write, restart and compaction is dead: for each number an input in bytes that gets it. The thought: runs of one byte with a byte between
 -- them are a map as they stand, as long as one likes.
 use Prim.Native.Nat.{ℕ, zero, suc, _≤_}
 use native.Mathlib.Omega.{arith}
@@ -14,19 +14,19 @@ use Rattle.runs.specs.Map.{mapOf, raise, draw, end, put, join}
 use Rattle.runs.specs.Sound.{maxRuns, maxEntries, allValid}
 use Rattle.runs.specs.Ages.{valueOf, age}
 use Rattle.runs.specs.Valid.{Valid}
-use Rattle.runs.specs.Bytes.{runLayout, runFields, runsOf, mapSize, logSize, soundMapBytes, soundLogBytes, bytesOf, mapBytes}
+use Rattle.runs.specs.Bytes.{runLayout, runFields, mapSize, logSize, soundMapBytes, soundLogBytes, mapBytes, logBytes}
 use Rattle.xdr.specs.Array.{Fits}
 use Rattle.runs.proofs.Ages.{age-run, oldest, oldest-sane}
 use Rattle.runs.proofs.Valid.{valid-cons}
-use Rattle.runs.proofs.Sound.{is-log}
 use Rattle.runs.proofs.Blank.{no-runs, empty-map, empty-log}
-use Rattle.runs.proofs.MapBytes.{run-fits, bytes-length, bytes-back, map-back, map-back-sound}
-use Rattle.runs.proofs.LogBytes.{bytes-log}
+use Rattle.runs.proofs.MapBytes.{run-fits, map-back, map-back-sound}
+use Rattle.runs.proofs.LogBytes.{entries-back, entries-sound}
 use Rattle.stripe.specs.Piece.{extent, place}
 use Rattle.stripe.specs.Refusals.{behind}
 use Rattle.note.specs.Note.{noteAnswer}
 use Rattle.write.specs.Write.{writeAnswer}
 use Rattle.restart.specs.Restart.{restartAnswer}
+use Rattle.compact.specs.Compact.{compactAnswer}
 use Rattle.promises.proofs.Spaced.{spaced, spaced-length, spaced-small, spaced-valid, spaced-fit, spaced-map, spaced-sound, spaced-raised}
 
 -- 12, 13, 14, 15 and 18 on an empty map and log
@@ -61,19 +61,6 @@ note-16 =
     let e : length (raise (place (extent 2049 1 1)) (spaced 1 1024)) ≡ 1025 = ap length (spaced-raised 1024) ∙ spaced-length 1 1025 in
     rw (map-back-sound (spaced 1 1024) s h, empty-log, map-back (spaced 1 1024) s h, e)
 
--- A log with these entries
-unfoldable pub logged : List Run → List ℕ
-logged es = bytesOf width (logSize width) es
-
-module _ (es : List Run) (fit : Fits (runLayout width) (map runFields es)) (good : allValid es ≡ true) (few : length es ≤ maxEntries) where
-  logged-back : runsOf width (logged es) ≡ es
-  unfolding logged
-  logged-back = bytes-back (logSize width) es fit (omega arith) (omega arith)
-
-  logged-sound : soundLogBytes (logged es) ≡ true
-  unfolding logged
-  logged-sound = bytes-log (logged es) (record { long = bytes-length (logSize width) es fit (omega arith) (omega arith); sound = rw logged-back (is-log es (record { few = few; good = good })) })
-
 -- 17 by a log of 2,048 entries, all alike
 abbrev pub one : Run
 one = run 0 0 oldest
@@ -89,14 +76,14 @@ ones-fit : (n : ℕ) → Fits (runLayout width) (map runFields (replicate n one)
 ones-fit zero = tt
 ones-fit (suc n) = (run-fits one one-valid (omega (arith, age-run 0 0 oldest)), ones-fit n)
 
-full : (n : ℕ) → n ≡ maxEntries → noteAnswer map0 (logged (replicate n one)) (extent 0 1 1) 1 ≡ 17
+full : (n : ℕ) → n ≡ maxEntries → noteAnswer map0 (logBytes width (replicate n one)) (extent 0 1 1) 1 ≡ 17
 unfolding noteAnswer mapOf draw end put join owner over valueOf
 full n e =
     let long : length (replicate n one) ≡ n = length-replicate n one in
     let few : length (replicate n one) ≤ maxEntries = omega arith in
-    rw (empty-map, logged-sound (replicate n one) (ones-fit n) (ones-valid n) few, no-runs (mapSize width), logged-back (replicate n one) (ones-fit n) (ones-valid n) few, long, le-leb maxEntries n (omega arith))
+    rw (empty-map, entries-sound (replicate n one) (ones-fit n) (ones-valid n) few, no-runs (mapSize width), entries-back (replicate n one) (ones-fit n) (ones-valid n) few, long, le-leb maxEntries n (omega arith))
 
-pub note-17 : noteAnswer map0 (logged (replicate maxEntries one)) (extent 0 1 1) 1 ≡ 17
+pub note-17 : noteAnswer map0 (logBytes width (replicate maxEntries one)) (extent 0 1 1) 1 ≡ 17
 note-17 = full maxEntries refl
 
 -- Write
@@ -126,17 +113,34 @@ module _ (m : List ℕ) (h : length m ≡ mapSize width) where
   unfolding restartAnswer soundLogBytes
   no-log = rw (eq-eqb (length m) (mapSize width) h)
 
-  many : (n : ℕ) → n ≡ suc maxRuns → restartAnswer m (logged (spaced 1 n)) ≡ 16
+  many : (n : ℕ) → n ≡ suc maxRuns → restartAnswer m (logBytes width (spaced 1 n)) ≡ 16
   unfolding restartAnswer
   many n e =
       let long = spaced-length 1 n in
       let few : length (spaced 1 n) ≤ maxEntries = omega arith in
       let good = spaced-valid 1 n (omega arith) in
       let fit = spaced-fit 1 n (omega arith) in
-      rw (eq-eqb (length m) (mapSize width) h, logged-sound (spaced 1 n) fit good few, logged-back (spaced 1 n) fit good few, spaced-map n, long, lt-ltb maxRuns n (omega arith))
+      rw (eq-eqb (length m) (mapSize width) h, entries-sound (spaced 1 n) fit good few, entries-back (spaced 1 n) fit good few, spaced-map n, long, lt-ltb maxRuns n (omega arith))
 
 pub restart-13 : restartAnswer map0 [] ≡ 13
 restart-13 = no-log map0 (length-replicate {A = ℕ} (mapSize width) 0)
 
-pub restart-16 : restartAnswer map0 (logged (spaced 1 1025)) ≡ 16
+pub restart-16 : restartAnswer map0 (logBytes width (spaced 1 1025)) ≡ 16
 restart-16 = many map0 (length-replicate {A = ℕ} (mapSize width) 0) 1025 refl
+
+-- Compaction: 16 by the same log
+pub compact-13 : compactAnswer [] [] ≡ 13
+unfolding compactAnswer
+compact-13 = refl
+
+many-runs : (n : List ℕ) → length n ≡ logSize width → (k : ℕ) → k ≡ suc maxRuns → compactAnswer (logBytes width (spaced 1 k)) n ≡ 16
+unfolding compactAnswer
+many-runs n h k e =
+    let long = spaced-length 1 k in
+    let few : length (spaced 1 k) ≤ maxEntries = omega arith in
+    let good = spaced-valid 1 k (omega arith) in
+    let fit = spaced-fit 1 k (omega arith) in
+    rw (eq-eqb (length n) (logSize width) h, entries-sound (spaced 1 k) fit good few, entries-back (spaced 1 k) fit good few, spaced-map k, long, lt-ltb maxRuns k (omega arith))
+
+pub compact-16 : compactAnswer (logBytes width (spaced 1 1025)) log0 ≡ 16
+compact-16 = many-runs log0 (length-replicate {A = ℕ} (logSize width) 0) 1025 refl

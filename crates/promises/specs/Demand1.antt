@@ -18,16 +18,17 @@ use Rattle.locks.specs.declared.Message.the-variants.{Request, Acknowledge, Dow
 use Rattle.locks.specs.Refusals.{rules}
 use Rattle.locks.specs.Session.{single}
 use Rattle.locks.specs.List.{itemAt}
-use Rattle.runs.specs.Bytes.{runsOf, mapSize, soundMapBytes, soundLogBytes}
+use Rattle.runs.specs.Bytes.{runsOf, mapSize, logSize, soundMapBytes, soundLogBytes}
 use Rattle.stripe.specs.declared.Extent.{Extent}
 use Rattle.stripe.specs.Piece.{Piece, extentOf}
-use Rattle.stripe.specs.Refusals.{writeRules, restartRules}
+use Rattle.stripe.specs.Refusals.{writeRules, restartRules, compactRules}
 use Rattle.serve.specs.declared.Answer.{Answer}
 use Rattle.message.specs.Messages.{entryRules, outcome, Serves}
 use Rattle.list.specs.Lists.{listRules, listRefusal, listItems, ServesList}
 use Rattle.note.specs.Note.{noteList, noteAnswer, Notes}
 use Rattle.write.specs.Write.{writeAnswer, Writes}
 use Rattle.restart.specs.Restart.{restartAnswer, Restarts}
+use Rattle.compact.specs.Compact.{compactAnswer, Compacts}
 
 -- "the first hit in the stated order": n is the number of a rule that the call breaks, and it keeps every rule before that one
 abbrev pub keeps : List Rule → Bool
@@ -85,8 +86,13 @@ pub record Restarted : Type 0 where
   pub answer : ℕ
   pub map : List ℕ
 
+pub record Compacted : Type 0 where
+  pub answer : ℕ
+  pub log : List ℕ
+
 -- "Order, first hit answers: request 1 to 8; the others 1, 2, 3, 9, 10, 11; note 12 to 17; write 12, 14, 15, 18; restart 12 (length only), 13, 16."
--- A release has nothing that 11 could say. A list: "1 (at its new size), 2, then 19"
+-- A release has nothing that 11 could say. A list: "1 (at its new size), 2, then 19". A compaction: "13 for either buffer's length or an unsound old
+-- log, then 16"
 pub data Entry : Type 0 where
   request : Entry
   acknowledge : Entry
@@ -96,6 +102,7 @@ pub data Entry : Type 0 where
   note : Entry
   write : Entry
   restart : Entry
+  compact : Entry
 
 abbrev pub numbers : Entry → List ℕ
 numbers request = 1 ∷ 2 ∷ 3 ∷ 4 ∷ 5 ∷ 6 ∷ 7 ∷ 8 ∷ []
@@ -106,6 +113,7 @@ numbers list = 1 ∷ 2 ∷ 19 ∷ []
 numbers note = 12 ∷ 13 ∷ 14 ∷ 15 ∷ 16 ∷ 17 ∷ []
 numbers write = 12 ∷ 14 ∷ 15 ∷ 18 ∷ []
 numbers restart = 12 ∷ 13 ∷ 16 ∷ []
+numbers compact = 13 ∷ 16 ∷ []
 
 abbrev pub entryOf : Message → Entry
 entryOf (Request c s m f l k) = request
@@ -131,7 +139,7 @@ OfList items table events =
     (listRules table (length events) (length items)) (numbers list)
     (λ n. record { answer = record { refusal = n; handle = 0; events = 0 }; items = items; table = table; events = events })
 
--- Note, write and restart
+-- Note, write, restart and compaction
 abbrev pub OfNote : List ℕ → List ℕ → Extent → ℕ → Type 0
 OfNote map log e image =
     Promised {R = Noted}
@@ -155,6 +163,14 @@ OfRestart map log =
     (λ x. x .answer)
     (restartRules (eqb (length map) (mapSize width)) (soundLogBytes log) (runsOf width log)) (numbers restart)
     (λ n. record { answer = n; map = map })
+
+abbrev pub OfCompact : List ℕ → List ℕ → Type 0
+OfCompact log new =
+    Promised {R = Compacted}
+    (λ x. Compacts log new (x .answer) (x .log))
+    (λ x. x .answer)
+    (compactRules (eqb (length new) (logSize width)) (soundLogBytes log) (runsOf width log)) (numbers compact)
+    (λ n. record { answer = n; log = new })
 
 -- "Numbers arrive as 64-bit values"
 abbrev pub Words : List ℕ → Type 0
@@ -181,6 +197,7 @@ pub data Gets : Entry → ℕ → Type 0 where
   writing : {n : ℕ} (map : List ℕ) (p : Piece) (image : List ℕ)
       → Words (p .first ∷ p .number ∷ []) → Bytes map → Bytes (p .bytes) → Bytes image → writeAnswer map (extentOf p) (length image) ≡ n → Gets write n
   restarting : {n : ℕ} (map log : List ℕ) → Bytes map → Bytes log → restartAnswer map log ≡ n → Gets restart n
+  compacting : {n : ℕ} (log new : List ℕ) → Bytes log → Bytes new → compactAnswer log new ≡ n → Gets compact n
 
 abbrev pub Reached : Entry → List ℕ → Type 0
 Reached e [] = Unit {0}
@@ -209,6 +226,7 @@ pub record Demand1 : Type 0 where
   pub notes : (map log : List ℕ) (e : Extent) (image : ℕ) → OfNote map log e image
   pub writes : (map : List ℕ) (p : Piece) (image : List ℕ) → OfWrite map p image
   pub restarts : (map log : List ℕ) → OfRestart map log
+  pub compactions : (log new : List ℕ) → OfCompact log new
   -- "For each number an input that gets it, so that no refusal is dead": for each number of each entry, so for 1 to 19, and for each of an item
   pub reached : (e : Entry) → Reached e (numbers e)
   pub items-reached : ItemsReached (3 ∷ 4 ∷ 5 ∷ 6 ∷ 7 ∷ 8 ∷ [])
