@@ -18,5 +18,6 @@ pub mod Byte
 pub mod Followed
 pub mod Pieces
 pub mod Demand3
+pub mod Room
 pub mod Seam
 pub mod OnBytes

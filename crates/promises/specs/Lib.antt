@@ -7,6 +7,7 @@ pub mod Overtaken
 pub mod Logged
 pub mod Run
 pub mod Demand3
+pub mod Room
 pub mod Seam
 pub mod Examples
 pub mod OnBytes
