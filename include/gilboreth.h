@@ -10,7 +10,7 @@
  *   3. Sizes, limits and codes.
  *   4. Refusals, and what to do about each.
  *   5. The lock table: request, acknowledge, downgrade, release, and their events; lists of requests.
- *   6. The stripe: note, write, restart.
+ *   6. The stripe: note, write, restart, compact.
  */
 #ifndef GILBORETH_H
 #define GILBORETH_H
@@ -22,7 +22,7 @@
 extern "C" {
 #endif
 
-#define GIL_VERSION "0.2.0"
+#define GIL_VERSION "0.3.0"
 
 /* 1. Rules that no code can check
  *
@@ -37,7 +37,8 @@ extern "C" {
  *   - One call at a time on a buffer. Nothing else reads or changes it until the call returns.
  *     Calls on different buffers may run at the same time.
  *   - Table, map and log start as zero bytes: that is the empty table, the empty map, the empty log.
- *     After that each call is lent what the last call left. Never go back to an older copy.
+ *     After that each call is lent what the last call left. Never go back to an older copy, nor after a turn
+ *     (part 2) to the log before it.
  *   - The image has one length as long as its log is in use. Every note is told that length.
  *   - A piece is noted with the number of the lock it was written under, and inside its range.
  *   - Pieces of equal number agree wherever they overlap: a holder flushes each byte once under one lock.
@@ -74,16 +75,44 @@ extern "C" {
  * the call has returned, put the new table down whole beside the old one, and turn to it by one step, as a
  * rename. Send the events only once that is durable: a grant that the table forgets would be given twice.
  *
- * After a cut, and at every start: read the log as it is stored, and call gil_restart on it. No note and
- * no write before a restart has answered 0. If the storage fails at step 2 or 3, go on as after a cut.
+ * After a cut, and at every start: read the log as it is stored, wait until all that you read is durable (what
+ * a kill left may not be yet), and call gil_restart on it. No note and no write before a restart has answered 0.
+ * If the storage fails while you put something down or wait for it, go on as after a cut.
  *
- * An empty log. A log takes 2,048 notes. Start it again only when no older piece can come any more: every
- * write lock of the stripe is released, and every noted piece is written. Then put down 0 for the count as
- * one store, wait until it is durable, and restart. Keep the table: its numbers go on rising.
+ * Room in the log. A log has at most 2,048 entries, so GIL_MAX_ENTRIES - gil_count(log) more notes fit. gil_compact
+ * makes a log of at most 1,024 entries that has the same map. Compact early, while notes still fit:
+ *   1. Lend gil_compact the log in memory, and a second buffer.
+ *   2. Put the new log down, whole, where the stored log is not. Wait until it is durable.
+ *   3. Turn to it: one store, of a word that says which log is the stored one, or a rename. Wait until it is durable.
+ *   4. Only now comes the next note, on the new log. The map stays as it is.
+ * A cut finds either log, and both have the same map. After a cut the log is the one that the word names. What
+ * stands in the other is of no use: compact anew.
+ * No note from step 1 to step 4: its entry would stand in the old log alone, and be lost by the turn. If one was
+ * accepted before the turn all the same, begin again at step 1. Writes and restarts may come between.
  *
- * What this gives (proved, with cuts anywhere): once each noted piece had a write accepted, and the last
- * accepted write of every piece ran to its end, each byte under a noted piece is that of the noted piece
- * with the greatest number there, and every other byte is as it began.
+ * Room in the map. A map has at most 1,024 runs, and a note that needs more is refused with RUNS. A holder that
+ * can't note can't write, and so can't release: where every holder is refused, the stripe is stuck for ever.
+ * Compaction does not help, since it leaves the map as it is. So for each stripe count
+ *   - the runs: gil_count(map);
+ *   - the outstanding pieces, that may still be noted: those of the holders of write locks, and those of the
+ *     write requests that wait, since any call may grant them. Agree with the clients how many pieces there
+ *     are under one lock at most.
+ * Hand in a write request only while runs and outstanding pieces, its own too, are together at most 512. Then
+ * every outstanding piece fits, wherever it lies and in whatever order they come: the map of n entries has at
+ * most 2n - 1 runs. (One piece may add many runs: an old one fills every gap between newer ones.)
+ * gil_pieces_that_fit says how many pieces may be outstanding. When they are too many, hand in no more write
+ * requests for this stripe, let the holders flush and release, and start the log again.
+ *
+ * A log that starts again. Only when no older piece can come any more: every write lock of the stripe is
+ * released, and every noted piece is written. Then put down 0 for the count of the stored log as one store, wait
+ * until it is durable, and restart: log and map are empty. Keep the table: its numbers go on rising.
+ * A way there: request PW for bytes 0 to EOF of the stripe, for a client number of your own. It asks every lock
+ * back, and later requests wait behind it. Once it is granted no other lock is held: start the log again, and
+ * release it.
+ *
+ * What this gives (proved, with cuts anywhere, and compactions and turns among the steps): once each noted piece
+ * had a write accepted, and the last accepted write of every piece ran to its end, each byte under a noted piece
+ * is that of the noted piece with the greatest number there, and every other byte is as it began.
  */
 
 /* 3. Sizes, limits and codes
@@ -150,7 +179,7 @@ extern "C" {
 #define GIL_REFUSED_OTHER_CLIENT 10 /* record of another client */
 #define GIL_REFUSED_STATE 11        /* acknowledge not in state 2; downgrade unless canceling BW or PW */
 #define GIL_REFUSED_MAP 12          /* map of another length, or not sound */
-#define GIL_REFUSED_LOG 13          /* log of another length, or not sound */
+#define GIL_REFUSED_LOG 13          /* log of another length, or not sound; second log of another length */
 #define GIL_REFUSED_PIECE 14        /* piece of length 0, past the image or past EOF */
 #define GIL_REFUSED_NUMBER 15       /* number 0 or above 4,294,967,295 */
 #define GIL_REFUSED_RUNS 16         /* the resulting map needs over 1,024 runs */
@@ -193,18 +222,18 @@ static inline const char *gil_refusal_text(uint64_t refusal)
     case GIL_REFUSED_MAP:
         return "The map has another length, or is not sound: lend 20,484 bytes, and fill them from the log by a restart.";
     case GIL_REFUSED_LOG:
-        return "The log has another length, or is not sound: lend its 40,964 bytes as stored; if those are damaged, "
-               "stop serving this stripe and bring back the log.";
+        return "The log has another length, or is not sound: lend its 40,964 bytes as stored, and to compact it a second "
+               "buffer as long; if its bytes are damaged, stop serving this stripe and bring back the log.";
     case GIL_REFUSED_PIECE:
         return "The piece is empty, or ends past the image or past EOF: send at least one byte, all inside the image.";
     case GIL_REFUSED_NUMBER:
         return "The number is 0 or above 4,294,967,295: send the number that the lock's grant carried.";
     case GIL_REFUSED_RUNS:
-        return "The map would need over 1,024 runs: once the stripe's write locks are released and every noted piece "
-               "is written, start the log again.";
+        return "The map would need over 1,024 runs: nothing is lost, the holder keeps the piece; let others flush and "
+               "note it again, since a newer piece over several runs makes room; the rule on room in the map "
+               "(gilboreth.h, part 2) keeps clear of this.";
     case GIL_REFUSED_ENTRIES:
-        return "The log is full with 2,048 entries: once the stripe's write locks are released and every noted piece "
-               "is written, start the log again.";
+        return "The log is full with 2,048 entries: compact it, turn to the new log, and note again.";
     case GIL_REFUSED_SMALLER:
         return "A byte of the piece has a smaller number in the map: note the piece first, then write it again.";
     case GIL_REFUSED_ITEMS:
@@ -378,12 +407,21 @@ GIL_CHECKED gil_answer gil_release(uint8_t *table, size_t table_len, uint8_t *ev
  * A client flushes a piece: bytes from a first byte on, with the number of the lock they were written under.
  * First the piece is noted, then it is written. Pieces may come in any order, and again.
  * The map has the greatest noted number of each byte. It lives in memory alone, and comes from the log.
+ * The log grows with each note, until it is compacted: then it has an entry for each run of the map.
  */
 
 /* Where entry i of a log starts, counted in bytes from the log's start. Entries count from 0. */
 static inline size_t gil_entry_place(size_t i)
 {
     return 4 + GIL_BYTES_PER_RUN * i;
+}
+
+/* How many pieces fit this map for sure, wherever they lie: 512 less its runs, since r runs and n pieces make at
+ * most 2 (r + n) - 1 runs. More may fit. The rule that this serves is 'Room in the map' in part 2. */
+static inline uint32_t gil_pieces_that_fit(const uint8_t *map)
+{
+    uint32_t runs = gil_count(map);
+    return runs < GIL_MAX_RUNS / 2 ? GIL_MAX_RUNS / 2 - runs : 0;
 }
 
 /* Notes a piece: appends its entry to the log, and raises the number of its bytes in the map.
@@ -411,11 +449,23 @@ GIL_CHECKED uint64_t gil_write(const uint8_t *map, size_t map_len, uint8_t *imag
 /* Fills the map from the log. After a cut, and at every start, this comes before any note or write.
  *
  * Takes: a map buffer, whose content does not matter; the log.
- * Answers: 0, or the refusal. A log made by notes alone, with cuts, is never refused.
+ * Answers: 0, or the refusal. A log made by notes and turns alone, with cuts, is never refused.
  * Never: changes the log.
  * Refusals, in this order: MAP (its length only), LOG, RUNS.
  */
 GIL_CHECKED uint64_t gil_restart(uint8_t *map, size_t map_len, const uint8_t *log, size_t log_len);
+
+/* Fills a second log with as few entries as say the same: the runs of the old log's map, rising, zeros after.
+ *
+ * Takes: the log; a second buffer of GIL_LOG_BYTES, whose content does not matter.
+ * Answers: 0, or the refusal. After 0 turn to the new log before the next note, as part 2 says. It has at most
+ *   1,024 entries, so at least 1,024 notes follow before ENTRIES. A log made by notes and turns alone, with cuts,
+ *   is never refused.
+ * Never: changes the old log, or what a restart makes of it: the new log has the same map. To compact it again
+ *   changes nothing.
+ * Refusals, in this order: LOG (the length of either buffer too), RUNS.
+ */
+GIL_CHECKED uint64_t gil_compact(const uint8_t *old_log, size_t old_len, uint8_t *new_log, size_t new_len);
 
 #ifdef __cplusplus
 }
