@@ -2,18 +2,24 @@
  *
  *     daemon DIRECTORY LENGTH
  *
- * DIRECTORY/image holds the stripe's image of LENGTH bytes, DIRECTORY/log its log. A file that is missing is made
- * of zero bytes. The daemon restarts from the log, and then serves standard input, a command a line:
+ * DIRECTORY/image holds the stripe's image of LENGTH bytes. Its log is DIRECTORY/log or DIRECTORY/log2, as the word of
+ * 4 bytes in DIRECTORY/turn says, big-endian: 0 for log, 1 for log2. A file that is missing is made of zero bytes. The
+ * daemon restarts from the log, and then serves standard input, a command a line:
  *
  *     note FIRST LENGTH NUMBER    notes a piece
  *     write FIRST NUMBER BYTES    writes a noted piece; BYTES is the rest of the line
  *     flush FIRST NUMBER BYTES    notes a piece, and then writes it
  *     read FIRST LENGTH           shows bytes of the image
+ *     room                        tells how many notes the log takes until it is compacted, and how many pieces
+ *                                 fit the map for sure
  *     restart                     fills the map from the stored log again
  *     quit
  *
- * Each command gets one line: the refusal number, 0 where it is accepted, and what to do about it or the bytes that
- * were read. The first line is the answer of the restart at the start. A line that is no command gets `?`.
+ * Each command gets one line: the refusal number, 0 where it is accepted, and what to do about it, or what was asked
+ * for. The first line is the answer of the restart at the start. A line that is no command gets `?`.
+ *
+ * A log that is nearly full is compacted before the next note: the other file gets the new log, and one store into
+ * the word turns to it.
  *
  * An answer is given once everything is durable, so the daemon may be killed at any place. A client that got no
  * answer sends its write again, and where that is refused with 18, its note was lost too: it flushes again.
@@ -31,10 +37,18 @@
 #include <sys/stat.h>
 #include <unistd.h>
 
+/* So many entries are a log that is nearly full. A compacted one has at most 1,024, so about as many notes follow. */
+#ifndef COMPACT_AT
+#define COMPACT_AT 2000
+#endif
+
+#define WORD_BYTES 4
+
 struct stripe {
     uint8_t map[GIL_MAP_BYTES]; /* in memory alone: a cut loses it */
-    uint8_t log[GIL_LOG_BYTES]; /* the copy that the entries are lent */
-    uint8_t *stored_log;        /* DIRECTORY/log, mapped */
+    uint8_t log[GIL_LOG_BYTES]; /* the copy that the calls are lent */
+    uint8_t *logs[2];           /* DIRECTORY/log and DIRECTORY/log2, mapped; one of them is the stored log */
+    uint8_t *turn;              /* DIRECTORY/turn, mapped: the word that says which */
     uint8_t *image;             /* DIRECTORY/image, mapped */
     size_t image_length;
 };
@@ -46,7 +60,17 @@ static void die(const char *what)
     exit(1);
 }
 
-/* Maps a file of this length; makes it of zero bytes where it is missing. */
+/* Waits until these bytes of a mapped file are durable. */
+static void make_durable(uint8_t *mapped, size_t first, size_t length)
+{
+    size_t page = (size_t)sysconf(_SC_PAGESIZE);
+    size_t start = first / page * page;
+    if (msync(mapped + start, first - start + length, MS_SYNC) != 0)
+        die("msync");
+}
+
+/* Maps a file of this length; makes it of zero bytes where it is missing. What a kill left in it may not be durable yet,
+ * and the answers to come rest on it: so that is waited for. */
 static uint8_t *map_file(int directory, const char *name, size_t length)
 {
     struct stat status;
@@ -63,37 +87,57 @@ static uint8_t *map_file(int directory, const char *name, size_t length)
     if (mapped == MAP_FAILED)
         die(name);
     close(file);
+    make_durable(mapped, 0, length);
     return mapped;
 }
 
-/* Waits until these bytes of a mapped file are durable. */
-static void make_durable(uint8_t *mapped, size_t first, size_t length)
+/* Puts a word at the start of a mapped file. It is one store, since a cut amid its bytes would leave a word that never
+ * was. */
+static void put_word(uint8_t *mapped, const uint8_t word[WORD_BYTES])
 {
-    size_t page = (size_t)sysconf(_SC_PAGESIZE);
-    size_t start = first / page * page;
-    if (msync(mapped + start, first - start + length, MS_SYNC) != 0)
-        die("msync");
+    uint32_t bytes; /* big-endian, as they stand in the file */
+    memcpy(&bytes, word, sizeof bytes);
+    atomic_store((_Atomic uint32_t *)(void *)mapped, bytes);
+    make_durable(mapped, 0, sizeof bytes);
+}
+
+static uint8_t *stored_log(const struct stripe *s)
+{
+    return s->logs[gil_u32_at(s->turn)];
 }
 
 /* Carries the newest entry from the log in memory to the stored log, so that a cut leaves the old log or the new one.
  * The entry comes first: until the count changes it is past the last entry, where any bytes may stand. The wait
- * after it keeps the storage from putting the count down earlier. The count is one store of 4 bytes, since a cut
- * amid them would leave a count that never was. */
+ * after it keeps the storage from putting the count down earlier. */
 static void carry_out(struct stripe *s)
 {
     size_t entry = gil_entry_place(gil_count(s->log) - 1);
-    memcpy(s->stored_log + entry, s->log + entry, GIL_BYTES_PER_RUN);
-    make_durable(s->stored_log, entry, GIL_BYTES_PER_RUN);
+    memcpy(stored_log(s) + entry, s->log + entry, GIL_BYTES_PER_RUN);
+    make_durable(stored_log(s), entry, GIL_BYTES_PER_RUN);
+    put_word(stored_log(s), s->log);
+}
 
-    uint32_t count; /* big-endian, as it stands in the log */
-    memcpy(&count, s->log, sizeof count);
-    atomic_store((_Atomic uint32_t *)(void *)s->stored_log, count);
-    make_durable(s->stored_log, 0, sizeof count);
+/* Fills the other log with the runs of the log's map, and turns to it, so that a cut finds either log. The wait before
+ * the turn keeps the storage from putting the word down earlier. There is one thread, so no note comes between. */
+static uint64_t compact(struct stripe *s)
+{
+    static const uint8_t words[2][WORD_BYTES] = {{0, 0, 0, 0}, {0, 0, 0, 1}};
+    uint32_t other = 1 - gil_u32_at(s->turn);
+    uint64_t refusal = gil_compact(s->log, sizeof s->log, s->logs[other], GIL_LOG_BYTES);
+    if (refusal != GIL_ACCEPTED)
+        return refusal;
+    make_durable(s->logs[other], 0, GIL_LOG_BYTES);
+    put_word(s->turn, words[other]);
+    memcpy(s->log, stored_log(s), sizeof s->log);
+    return GIL_ACCEPTED;
 }
 
 static uint64_t note(struct stripe *s, uint64_t first, uint64_t length, uint64_t number)
 {
-    uint64_t refusal = gil_note(s->map, sizeof s->map, s->log, sizeof s->log, first, length, number, s->image_length);
+    uint64_t refusal = gil_count(s->log) < COMPACT_AT ? GIL_ACCEPTED : compact(s);
+    if (refusal != GIL_ACCEPTED)
+        return refusal;
+    refusal = gil_note(s->map, sizeof s->map, s->log, sizeof s->log, first, length, number, s->image_length);
     if (refusal == GIL_ACCEPTED)
         carry_out(s);
     return refusal;
@@ -111,7 +155,7 @@ static uint64_t write_piece(struct stripe *s, uint64_t first, const char *bytes,
 /* The log in memory becomes the stored one, and the map is filled from it. */
 static uint64_t restart(struct stripe *s)
 {
-    memcpy(s->log, s->stored_log, sizeof s->log);
+    memcpy(s->log, stored_log(s), sizeof s->log);
     return gil_restart(s->map, sizeof s->map, s->log, sizeof s->log);
 }
 
@@ -129,6 +173,13 @@ static void answer_read(const struct stripe *s, uint64_t first, uint64_t length)
     fputs("0 ", stdout);
     fwrite(s->image + first, 1, (size_t)length, stdout);
     putchar('\n');
+}
+
+static void answer_room(const struct stripe *s)
+{
+    uint32_t entries = gil_count(s->log);
+    uint32_t notes = entries < COMPACT_AT ? COMPACT_AT - entries : 0;
+    printf("0 %" PRIu32 " %" PRIu32 "\n", notes, gil_pieces_that_fit(s->map));
 }
 
 /* Takes a word off the front of a line, up to the next space. */
@@ -177,6 +228,8 @@ static bool serve(struct stripe *s, char *line, size_t line_length)
         answer(refusal != GIL_ACCEPTED ? refusal : write_piece(s, a, rest, (size_t)(end - rest), b));
     } else if (strcmp(name, "read") == 0 && number(&rest, &a) && number(&rest, &b))
         answer_read(s, a, b);
+    else if (strcmp(name, "room") == 0)
+        answer_room(s);
     else
         puts("?");
     return true;
@@ -195,7 +248,13 @@ int main(int count, char **words)
         die(words[1]);
     s.image_length = (size_t)length;
     s.image = map_file(directory, "image", s.image_length);
-    s.stored_log = map_file(directory, "log", GIL_LOG_BYTES);
+    s.logs[0] = map_file(directory, "log", GIL_LOG_BYTES);
+    s.logs[1] = map_file(directory, "log2", GIL_LOG_BYTES);
+    s.turn = map_file(directory, "turn", WORD_BYTES);
+    if (gil_u32_at(s.turn) > 1) {
+        fprintf(stderr, "turn: it has %" PRIu32 "; 0 names log, 1 names log2\n", gil_u32_at(s.turn));
+        return 1;
+    }
 
     /* No note and no write before a restart has answered 0. */
     uint64_t refusal = restart(&s);
