@@ -1,13 +1,15 @@
 """Kills the example daemon with SIGKILL at random places, and checks what it leaves.
 
-    kills.py [--seed N] [--kills N] [--seconds N] [--inside] [--only-the-end] DAEMON..
-    (DAEMON.. are the words that start the daemon)
+    kills.py --compact-at N [--seed N] [--kills N] [--turns N] [--seconds N] [--inside] [--only-the-end] DAEMON..
+    (DAEMON.. are the words that start the daemon, which is compiled with -DCOMPACT_AT=N)
 
 A run begins with an empty log and an image of its own. Clients note, write and flush pieces in any order and again; the
-daemon is killed, looked at, and started again. This file keeps its own account of the stripe, byte by byte, from
-document 01. After each kill
+daemon is killed, looked at, and started again. When its log has so many entries, the next note compacts it first, and
+turns to the new log. This file keeps its own account of the stripe, byte by byte, from documents 01 and 02. After each kill
 
-  - the log holds the entries of the noted pieces in note order, at most with that of the note that was cut;
+  - the word names the log that was turned to last, at most that of the turn that was cut;
+  - this log holds the runs of the map at that turn, rising, then the entries of the pieces noted since, in note order, at
+    most with that of the note that was cut, and zeros after its place;
   - the image is as the account has it, but for bytes that the write that was cut would store.
 
 At the end of a run, after all kills, each piece that was noted and had no write accepted, or whose last accepted write was
@@ -17,13 +19,14 @@ it began. --only-the-end leaves out the checks before.
 Kills come from outside, at any time. With --inside the daemon kills itself, as trap.c has it: inside of a call, or between
 two of its stores. Each kill is counted by the place that it found, as the files show it (PLACES).
 
-Runs are played until there were so many kills, and one in each place; from outside, where some places are met by luck alone,
-one at a restart, one in a note and one in a write. Where so many seconds are not enough for that, it has failed. What is
-wrong ends it with status 10.
+Runs are played until there were so many kills, so many turns, and a kill in each place; from outside, where some places are
+met by luck alone, one at a restart, one in a note, one in a turn and one in a write. Where so many seconds are not enough
+for that, it has failed. What is wrong ends it with status 10.
 """
 import argparse
 import os
 import random
+import re
 import signal
 import struct
 import subprocess
@@ -33,13 +36,18 @@ import time
 from collections import Counter
 
 LENGTH = 200_001  # of the image: many pages, and one that is not full
-TURNS = 14  # starts of the daemon in a run; in all but the first it is killed
+STARTS = 14  # of the daemon in a run; in all but the first it is killed
 LINES = 60  # commands that wait for a daemon that is going to be killed
 LETTERS = bytes(range(33, 123)) * (LENGTH // 90 + 2)
 WRONG = 10
 COUNT, ENTRY = struct.Struct(">I"), struct.Struct(">QQI")  # the log is a count, and entries of first, last, number
+LOG_BYTES = COUNT.size + 2048 * ENTRY.size
+LOGS = ["log", "log2"]  # as the word in the file turn names them, 0 and 1
 PLACES = [
     "at a restart",
+    "amid the new log of a turn",
+    "between new log and word of a turn",
+    "after the word of a turn",
     "before the entry of a note",
     "between entry and count of a note",
     "after the count of a note",
@@ -70,19 +78,46 @@ class Piece:
         return f"[{self.first},{self.end - 1}] number {self.number}"
 
 
-class Stripe:
-    """What document 01 says of the stripe after the calls so far."""
+def log_of(entries):
+    """The bytes of a log up to its last entry."""
+    return COUNT.pack(len(entries)) + b"".join(entries)
 
-    def __init__(self, began):
-        self.began = began
+
+def whole(log):
+    return log.ljust(LOG_BYTES, b"\0")
+
+
+class Stripe:
+    """What documents 01 and 02 say of the stripe after the calls so far."""
+
+    def __init__(self, began, compact_at):
+        self.began, self.compact_at = began, compact_at
         self.image = bytearray(began)
         self.numbers = bytearray(LENGTH)  # the map: the number of each byte
         self.noted = []
+        self.entries = []  # of the log
+        self.word, self.turns = 0, 0  # which log it is, and how often it was turned to another
+        self.other = log_of([])  # the log before the last turn
+
+    def full(self):
+        """Whether the next note compacts the log first."""
+        return len(self.entries) >= self.compact_at
+
+    def runs(self):
+        """The runs of the map, as entries: the longest stretches of bytes with one number, but for those with 0."""
+        stretches = re.finditer(rb"([^\0])\1*", self.numbers, re.DOTALL)
+        return [ENTRY.pack(stretch.start(), stretch.end() - 1, stretch[1][0]) for stretch in stretches]
+
+    def turn(self):
+        self.other = log_of(self.entries)
+        self.entries = self.runs()
+        self.word, self.turns = 1 - self.word, self.turns + 1
 
     def note(self, piece):
         greater = bytes(max(number, piece.number) for number in range(256))
         self.numbers[piece.first : piece.end] = self.numbers[piece.first : piece.end].translate(greater)
         self.noted.append(piece)
+        self.entries.append(piece.entry)
 
     def refuses(self, piece):
         """Whether a write of this piece is refused, with 18."""
@@ -112,11 +147,11 @@ class Run:
         self.daemon, self.inside, self.only_the_end = options.daemon, options.inside, options.only_the_end
         self.chance, self.directory, self.seen = chance, directory, seen
         began = bytes(chance.randrange(128, 256) for _ in range(1000)) * (LENGTH // 1000 + 1)
-        self.stripe = Stripe(began[:LENGTH])
+        self.stripe = Stripe(began[:LENGTH], options.compact_at)
         self.store("image", self.stripe.began)
         self.written = set()  # pieces whose last accepted write ran to its end
         self.unfinished = []  # pieces whose last accepted write was cut
-        self.found = b""  # the log as the daemon found it
+        self.found = {}  # the logs as the daemon found them
         self.seconds = 0  # how long the daemon takes for its commands
 
     def path(self, name):
@@ -167,6 +202,8 @@ class Run:
     def account(self, name, piece, answer):
         """A command was answered: it must be the right answer."""
         if name in ("note", "flush"):
+            if self.stripe.full():
+                self.stripe.turn()
             self.stripe.note(piece)
         right = 18 if name == "write" and self.stripe.refuses(piece) else 0
         if answer != right:
@@ -177,54 +214,76 @@ class Run:
             self.unfinished = [other for other in self.unfinished if other is not piece]
 
     def look(self, name, piece):
-        """The daemon has ended, perhaps amid this command. The log says whether its note was cut."""
-        log, image, stripe = self.stored("log"), self.stored("image"), self.stripe
-        count = COUNT.unpack_from(log)[0]
+        """The daemon has ended, perhaps amid this command. Word and log say whether its turn or its note was cut."""
+        image, stripe = self.stored("image"), self.stripe
+        logs = {log: self.stored(log) for log in LOGS}
+        word = COUNT.unpack(self.stored("turn"))[0]
+        if word >= len(LOGS):
+            raise Wrong(f"the word is {word}, and names no log")
+        log, other = logs[LOGS[word]], LOGS[1 - word]
+        noting, place = name in ("note", "flush"), "before the entry of a note"
+        if noting and stripe.full() and word == stripe.word:
+            if logs[other] == whole(log_of(stripe.runs())):
+                place = "between new log and word of a turn"
+            elif logs[other] != self.found[other] and not starts(logs[other], stripe.other):
+                place = "amid the new log of a turn"
+        elif noting and stripe.full():
+            stripe.turn()
+            place = "after the word of a turn"
+        count = min(COUNT.unpack_from(log)[0], 2048)
         end = COUNT.size + ENTRY.size * count
         entry = slice(end, end + ENTRY.size)
         writing = name == "write" and not stripe.refuses(piece)
         if name == "restart":
             self.seen["at a restart"] += 1
-        elif name in ("note", "flush") and count == len(stripe.noted) + 1:
+        elif noting and count == len(stripe.entries) + 1:
             stripe.note(piece)
             writing = name == "flush"
             self.seen["after the count of a note"] += 1
-        elif name in ("note", "flush") and log[entry] == piece.entry and self.found[entry] != piece.entry:
+        elif noting and log[entry] == piece.entry and self.found[LOGS[word]][entry] != piece.entry:
             self.seen["between entry and count of a note"] += 1
-        elif name in ("note", "flush"):
-            self.seen["before the entry of a note"] += 1
+        elif noting:
+            self.seen[place] += 1
         if writing:
             self.unfinished.append(piece)
             self.written.discard(piece)
             now, old = image[piece.first : piece.end], bytes(stripe.image[piece.first : piece.end])
-            whole = stripe.after(piece, piece.bytes)
-            if old != whole:
-                self.seen[f"{'before' if now == old else 'after' if now == whole else 'amid'} the bytes of a write"] += 1
+            done = stripe.after(piece, piece.bytes)
+            if old != done:
+                self.seen[f"{'before' if now == old else 'after' if now == done else 'amid'} the bytes of a write"] += 1
             stripe.write(piece, now)  # any bytes at the places that it would store
-        self.found = log
+        self.found = logs
         if not self.only_the_end:
-            entries = b"".join(piece.entry for piece in stripe.noted)
-            if count != len(stripe.noted) or log[COUNT.size : COUNT.size + len(entries)] != entries:
-                raise Wrong(f"the log has not the {len(stripe.noted)} entries of the noted pieces")
+            if word != stripe.word:
+                raise Wrong(f"the word names {LOGS[word]}, not {LOGS[stripe.word]}")
+            if not starts(log, log_of(stripe.entries)):
+                raise Wrong(f"{LOGS[word]} has not the {len(stripe.entries)} entries that are due, and zeros after them")
             compare("when the daemon had ended", image, stripe.image)
         stripe.image[:] = image
+        stripe.word, stripe.entries = word, [log[i : i + ENTRY.size] for i in range(COUNT.size, end, ENTRY.size)]
 
     def play(self):
         chance, pieces, weights = self.chance, [], []
-        for turn in range(TURNS):
+        for start in range(STARTS):
             # New pieces, of which some are older than what is noted; and commands, which are mostly theirs.
             for most in (9, 5_000, 150_000) * 4:
                 first = chance.randrange(LENGTH)
-                number = chance.randint(max(1, 6 * turn - 10), 6 * turn + 6)
+                number = chance.randint(max(1, 6 * start - 10), 6 * start + 6)
                 pieces.append(Piece(first, chance.randint(1, min(most, LENGTH - first)), number))
             weights = [1] * len(weights) + [10] * 12
             names = chance.choices(("note", "write", "flush", "restart"), (4, 6, 6, 1), k=LINES)
-            self.serve(list(zip(names, chance.choices(pieces, weights, k=LINES))), kill=turn > 0)
+            self.serve(list(zip(names, chance.choices(pieces, weights, k=LINES))), kill=start > 0)
         rest = list(dict.fromkeys([piece for piece in self.stripe.noted if piece not in self.written] + self.unfinished))
         chance.shuffle(rest)
         for kill in (True, True, False):
             rest = rest[self.serve([("write", piece) for piece in rest], kill) :]
         compare("at the end", self.stored("image"), self.stripe.owed())
+        self.seen["turns"] += self.stripe.turns
+
+
+def starts(log, front):
+    """Whether a log has these bytes, and zeros after them, but for the entry of a note that was cut, which may be any."""
+    return log[: len(front)] == front and not any(log[len(front) + ENTRY.size :])
 
 
 def compare(when, image, right):
@@ -235,8 +294,10 @@ def compare(when, image, right):
 
 def main():
     parser = argparse.ArgumentParser()
+    parser.add_argument("--compact-at", type=int, required=True)
     parser.add_argument("--seed", type=int, default=int.from_bytes(os.urandom(4), "big"))
     parser.add_argument("--kills", type=int, default=300)
+    parser.add_argument("--turns", type=int, default=50)
     parser.add_argument("--seconds", type=float, default=60)
     parser.add_argument("--inside", action="store_true")
     parser.add_argument("--only-the-end", action="store_true")
@@ -244,11 +305,12 @@ def main():
     options = parser.parse_args()
     print(f"kills: seed {options.seed}", file=sys.stderr)
     chance, seen, runs, begun = random.Random(options.seed), Counter(), 0, time.perf_counter()
-    needed = PLACES if options.inside else ["at a restart", "of a note", "of a write"]
+    needed = PLACES if options.inside else ["at a restart", "of a turn", "of a note", "of a write"]
 
     def missing():
         """What was asked for and has not come yet."""
-        few = [f"only {seen['kills']} kills of {options.kills}"] * (seen["kills"] < options.kills)
+        asked = {"kills": options.kills, "turns": options.turns}
+        few = [f"only {seen[what]} {what} of {number}" for what, number in asked.items() if seen[what] < number]
         return few + [f"no kill {end}" for end in needed if not any(seen[place] for place in PLACES if place.endswith(end))]
 
     try:
@@ -260,7 +322,8 @@ def main():
         print(f"kills: WRONG after {seen['kills']} kills (seed {options.seed}): {wrong}", file=sys.stderr)
         sys.exit(WRONG)
     places = ", ".join(f"{seen[place]} {place}" for place in PLACES)
-    print(f"kills: {seen['kills']} in {runs} runs, {time.perf_counter() - begun:.0f} s: {places}; all images right", file=sys.stderr)
+    spent = f"{time.perf_counter() - begun:.0f} s, {seen['turns']} turns"
+    print(f"kills: {seen['kills']} in {runs} runs, {spent}: {places}; all images right", file=sys.stderr)
     if missing():
         sys.exit(f"kills: FAILED: {', '.join(missing())} in {options.seconds:.0f} s")
 

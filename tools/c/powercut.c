@@ -2,9 +2,10 @@
  *
  * A mapped file becomes a copy in memory. What is stored there reaches the file by msync, or by chance earlier: at some
  * msync, sectors that were stored and not waited for reach the file, in no order. GIL_CUT is a seed; if it is not 0,
- * the program is killed at some msync, right after such sectors.
+ * the program is killed at some msync, right after such sectors; most often at those of a turn, which are few.
  *
- * -DIMPATIENT ignores every other msync of the log: a program that does not wait between entry and count.
+ * -DIMPATIENT ignores the msync of an entry: a program that does not wait between entry and count.
+ * -DHASTY does the msync of a new log after that of the word: a program that turns before the new log is durable.
  */
 #define _POSIX_C_SOURCE 200809L
 #include <gilboreth.h>
@@ -24,8 +25,7 @@ static struct mapped {
     uint8_t *memory, *stored; /* as the program sees the file, and as it is in the file */
     size_t length;
     int file;
-    unsigned calls;
-} files[2];
+} files[4];
 static size_t count;
 
 static int chance(int of)
@@ -55,6 +55,8 @@ void *__wrap_mmap(void *address, size_t length, int protection, int flags, int f
 {
     struct mapped *m = &files[count++];
     (void)flags;
+    if (count > sizeof files / sizeof *files)
+        abort();
     m->memory = __real_mmap(address, length, protection, MAP_PRIVATE, file, offset);
     m->stored = malloc(length);
     m->length = length;
@@ -65,7 +67,7 @@ void *__wrap_mmap(void *address, size_t length, int protection, int flags, int f
     return m->memory;
 }
 
-int __wrap_msync(void *address, size_t length, int flags)
+static void perhaps_cut(int of)
 {
     static int seeded, cuts;
     if (!seeded++) {
@@ -73,21 +75,43 @@ int __wrap_msync(void *address, size_t length, int flags)
         cuts = seed != NULL && strcmp(seed, "0") != 0;
         srand(cuts ? (unsigned)strtoul(seed, NULL, 10) : 0);
     }
-    (void)flags;
-    if (cuts && chance(60)) {
+    if (cuts && chance(of)) {
         store_some_sectors(2);
         raise(SIGKILL);
     }
+}
+
+int __wrap_msync(void *address, size_t length, int flags)
+{
+    struct mapped *m = files;
+    while (m < files + count && ((uint8_t *)address < m->memory || (uint8_t *)address >= m->memory + m->length))
+        m++;
+    if (m == files + count)
+        abort();
+    size_t first = (size_t)((uint8_t *)address - m->memory);
+    int word = m->length == sizeof(uint32_t), new_log = m->length == GIL_LOG_BYTES && length == GIL_LOG_BYTES;
+    (void)flags;
+    int stored = memcmp(m->memory, m->stored, m->length) == 0;
+    perhaps_cut((word || new_log) && !stored ? 5 : 80);
     if (chance(4))
         store_some_sectors(2);
-    for (struct mapped *m = files; m < files + count; m++)
-        if ((uint8_t *)address >= m->memory && (uint8_t *)address < m->memory + m->length) {
-            size_t first = (size_t)((uint8_t *)address - m->memory);
 #ifdef IMPATIENT
-            if (m->length == GIL_LOG_BYTES && m->calls++ % 2 == 0)
-                return 0;
+    if (m->length == GIL_LOG_BYTES && !new_log && length != sizeof(uint32_t))
+        return 0;
 #endif
-            store(m, first, first + length);
-        }
+#ifdef HASTY
+    static struct mapped *late;
+    if (new_log) {
+        late = m;
+        return 0;
+    }
+    if (word && late != NULL) {
+        store(m, 0, m->length);
+        perhaps_cut(5);
+        m = late;
+        length = m->length;
+    }
+#endif
+    store(m, first, first + length);
     return 0;
 }

@@ -1,8 +1,10 @@
-/* trap.c: linked around the calls and msync (--wrap), this kills a program inside of a call, or between two of its stores.
+/* trap.c: linked around the calls, mmap and msync (--wrap), this kills a program inside of a call, or between two of its
+ * stores.
  *
  * GIL_CUT is a seed; if it is not 0, it chooses one of the places below, and how often it is passed before the kill. No kill
  * from outside is so sure to meet a call: inside of gil_write the image can't be stored to but for its two pages that were
- * stored to last, so the program is stopped before each page that the call goes on to, and may be killed there.
+ * stored to last, so the program is stopped before each page that the call goes on to, and may be killed there. So it is
+ * with the new log inside of gil_compact, which is filled with other bytes before, so that kills.py sees how far it came.
  *
  * -DWRITE=.. names a gil_write of wrong.c that is called in place of the library's.
  */
@@ -28,15 +30,26 @@ uint64_t __wrap_gil_note(uint8_t *map, size_t map_len, uint8_t *log, size_t log_
                          uint64_t number, uint64_t image_length);
 uint64_t __real_gil_restart(uint8_t *map, size_t map_len, const uint8_t *log, size_t log_len);
 uint64_t __wrap_gil_restart(uint8_t *map, size_t map_len, const uint8_t *log, size_t log_len);
+uint64_t __real_gil_compact(const uint8_t *old_log, size_t old_len, uint8_t *new_log, size_t new_len);
+uint64_t __wrap_gil_compact(const uint8_t *old_log, size_t old_len, uint8_t *new_log, size_t new_len);
+void *__real_mmap(void *address, size_t length, int protection, int flags, int file, off_t offset);
+void *__wrap_mmap(void *address, size_t length, int protection, int flags, int file, off_t offset);
 int __real_msync(void *address, size_t length, int flags);
 int __wrap_msync(void *address, size_t length, int flags);
 
 /* Where a kill comes, and how often it is passed at most before that. */
-enum place { RESTART, NOTE, ENTRY, COUNT, BEFORE_WRITE, PAGE, WRITTEN, PLACES };
-static const int most[PLACES] = {4, 40, 20, 20, 20, 120, 20};
+enum place { RESTART, NOTE, ENTRY, COUNT, BEFORE_WRITE, PAGE, WRITTEN, LOG_PAGE, NEW_LOG, TURN, PLACES };
+static const int most[PLACES] = {4, 40, 20, 20, 20, 120, 20, 12, 1, 1};
 
-static uint8_t *image_at, *open_pages[2];
+/* What a call stores to page by page, and the place that each page is. */
+static struct {
+    uint8_t *at, *open_pages[2];
+    size_t length;
+    enum place page;
+} lent;
+static uint8_t *image_at, *turn_at;
 static size_t image_length, page;
+static int restarted; /* what is waited for before the first restart is none of the places */
 
 /* The program is at this place. */
 static void pass(enum place at)
@@ -53,40 +66,62 @@ static void pass(enum place at)
         raise(SIGKILL);
 }
 
-/* The call goes on to another page of the image. A store may lie over two pages, so two stay open. */
+/* The call goes on to another page of what it is lent. A store may lie over two pages, so two stay open. */
 static void next_page(int signal, siginfo_t *fault, void *context)
 {
     uint8_t *address = fault->si_addr, *stored;
     (void)signal;
     (void)context;
-    if (address < image_at || address >= image_at + image_length)
+    if (address < lent.at || address >= lent.at + lent.length)
         abort();
-    pass(PAGE);
-    stored = image_at + (size_t)(address - image_at) / page * page;
-    if (open_pages[0] != NULL && open_pages[0] != stored)
-        mprotect(open_pages[0], page, PROT_READ);
-    open_pages[0] = open_pages[1];
-    open_pages[1] = stored;
+    pass(lent.page);
+    stored = lent.at + (size_t)(address - lent.at) / page * page;
+    if (lent.open_pages[0] != NULL && lent.open_pages[0] != stored)
+        mprotect(lent.open_pages[0], page, PROT_READ);
+    lent.open_pages[0] = lent.open_pages[1];
+    lent.open_pages[1] = stored;
     mprotect(stored, page, PROT_READ | PROT_WRITE);
 }
 
-uint64_t __wrap_gil_write(const uint8_t *map, size_t map_len, uint8_t *image, size_t image_len, uint64_t first,
-                          const uint8_t *piece, size_t piece_len, uint64_t number)
+static void lend(uint8_t *bytes, size_t length, enum place each_page)
 {
     struct sigaction action;
     memset(&action, 0, sizeof action);
     action.sa_sigaction = next_page;
     action.sa_flags = SA_SIGINFO;
     page = (size_t)sysconf(_SC_PAGESIZE);
+    lent.at = bytes;
+    lent.length = length;
+    lent.page = each_page;
+    lent.open_pages[0] = lent.open_pages[1] = NULL;
+    if (sigaction(SIGSEGV, &action, NULL) != 0 || mprotect(bytes, length, PROT_READ) != 0)
+        abort();
+}
+
+static void take_back(void)
+{
+    if (mprotect(lent.at, lent.length, PROT_READ | PROT_WRITE) != 0)
+        abort();
+}
+
+uint64_t __wrap_gil_write(const uint8_t *map, size_t map_len, uint8_t *image, size_t image_len, uint64_t first,
+                          const uint8_t *piece, size_t piece_len, uint64_t number)
+{
     image_at = image;
     image_length = image_len;
-    open_pages[0] = open_pages[1] = NULL;
     pass(BEFORE_WRITE);
-    if (sigaction(SIGSEGV, &action, NULL) != 0 || mprotect(image, image_len, PROT_READ) != 0)
-        abort();
+    lend(image, image_len, PAGE);
     uint64_t refusal = WRITE(map, map_len, image, image_len, first, piece, piece_len, number);
-    if (mprotect(image, image_len, PROT_READ | PROT_WRITE) != 0)
-        abort();
+    take_back();
+    return refusal;
+}
+
+uint64_t __wrap_gil_compact(const uint8_t *old_log, size_t old_len, uint8_t *new_log, size_t new_len)
+{
+    memset(new_log, 0xa5, new_len);
+    lend(new_log, new_len, LOG_PAGE);
+    uint64_t refusal = __real_gil_compact(old_log, old_len, new_log, new_len);
+    take_back();
     return refusal;
 }
 
@@ -104,16 +139,26 @@ uint64_t __wrap_gil_restart(uint8_t *map, size_t map_len, const uint8_t *log, si
     pass(RESTART);
     uint64_t refusal = __real_gil_restart(map, map_len, log, log_len);
     pass(RESTART);
+    restarted = 1;
     return refusal;
 }
 
-/* What was stored is not waited for yet: the count alone, an entry, or bytes of the image. */
+/* The file of one word is the one that says which log is the stored one. */
+void *__wrap_mmap(void *address, size_t length, int protection, int flags, int file, off_t offset)
+{
+    void *mapped = __real_mmap(address, length, protection, flags, file, offset);
+    if (length == sizeof(uint32_t))
+        turn_at = mapped;
+    return mapped;
+}
+
+/* What was stored is not waited for yet: bytes of the image, the word, a new log, the count alone, or an entry. */
 int __wrap_msync(void *address, size_t length, int flags)
 {
     uint8_t *stored = address;
     if (image_at != NULL && stored >= image_at && stored < image_at + image_length)
         pass(WRITTEN);
-    else
-        pass(length == sizeof(uint32_t) ? COUNT : ENTRY);
+    else if (restarted)
+        pass(stored == turn_at ? TURN : length == GIL_LOG_BYTES ? NEW_LOG : length == sizeof(uint32_t) ? COUNT : ENTRY);
     return __real_msync(address, length, flags);
 }

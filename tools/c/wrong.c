@@ -53,3 +53,30 @@ uint64_t puts_back(const uint8_t *map, size_t map_len, uint8_t *image, size_t im
     return refusal;
 }
 #endif
+
+#ifdef NOTES_BETWEEN
+/* Takes a note between the call and the turn: what is turned to was made before the last note. */
+uint64_t __real_gil_compact(const uint8_t *old_log, size_t old_len, uint8_t *new_log, size_t new_len);
+uint64_t __wrap_gil_compact(const uint8_t *old_log, size_t old_len, uint8_t *new_log, size_t new_len);
+uint64_t __real_gil_note(uint8_t *map, size_t map_len, uint8_t *log, size_t log_len, uint64_t first, uint64_t length,
+                         uint64_t number, uint64_t image_length);
+uint64_t __wrap_gil_note(uint8_t *map, size_t map_len, uint8_t *log, size_t log_len, uint64_t first, uint64_t length,
+                         uint64_t number, uint64_t image_length);
+static uint8_t early[GIL_LOG_BYTES];
+static int made;
+
+uint64_t __wrap_gil_note(uint8_t *map, size_t map_len, uint8_t *log, size_t log_len, uint64_t first, uint64_t length,
+                         uint64_t number, uint64_t image_length)
+{
+    made = __real_gil_compact(log, log_len, early, sizeof early) == GIL_ACCEPTED;
+    return __real_gil_note(map, map_len, log, log_len, first, length, number, image_length);
+}
+
+uint64_t __wrap_gil_compact(const uint8_t *old_log, size_t old_len, uint8_t *new_log, size_t new_len)
+{
+    if (!made)
+        return __real_gil_compact(old_log, old_len, new_log, new_len);
+    memcpy(new_log, early, sizeof early);
+    return GIL_ACCEPTED;
+}
+#endif
