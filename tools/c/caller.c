@@ -1,16 +1,17 @@
 /* caller.c: calls the entries as standard input says, a call a line, on buffers that a script puts in and takes out.
  *
- *     put BUFFER HEX      BUFFER is table, events, map, log, image or piece
+ *     put BUFFER HEX      BUFFER is table, events, map, log, new_log, image or piece
  *     get BUFFER          answers its bytes in hex
  *     request CLIENT STRIPE MODE FIRST LAST
  *     acknowledge CLIENT HANDLE       and so downgrade, release
  *     note FIRST LENGTH NUMBER        the image's length is that of the buffer
  *     write FIRST NUMBER              of the bytes in piece
  *     restart
+ *     compact                         of log into new_log
  *     item CLIENT STRIPE MODE FIRST LAST      puts it behind the items of the list to come, and answers how many they are
  *     list                                    requests this list
  *
- * A message answers refusal, handle and events; note, write and restart the refusal. A list answers refusal, handle and
+ * A message answers refusal, handle and events; note, write, restart and compact the refusal. A list answers refusal, handle and
  * events, and then the eight numbers of each item.
  */
 #define _POSIX_C_SOURCE 200809L
@@ -25,9 +26,9 @@ struct buffer {
     size_t length;
     uint8_t *bytes;
 };
-enum { TABLE, EVENTS, MAP, LOG, IMAGE, PIECE, BUFFERS };
-static struct buffer buffers[BUFFERS] = {{"table", 0, NULL}, {"events", 0, NULL}, {"map", 0, NULL},
-                                         {"log", 0, NULL},   {"image", 0, NULL},  {"piece", 0, NULL}};
+enum { TABLE, EVENTS, MAP, LOG, NEW_LOG, IMAGE, PIECE, BUFFERS };
+static struct buffer buffers[BUFFERS] = {{"table", 0, NULL},   {"events", 0, NULL}, {"map", 0, NULL},  {"log", 0, NULL},
+                                         {"new_log", 0, NULL}, {"image", 0, NULL},  {"piece", 0, NULL}};
 #define LENT(i) buffers[i].bytes, buffers[i].length
 
 static struct buffer *buffer(const char *name)
@@ -58,8 +59,8 @@ static void put(struct buffer *b, const char *hex)
 static void get(const struct buffer *b)
 {
     for (size_t i = 0; i < b->length; i++) {
-        putchar("0123456789abcdef"[b->bytes[i] / 16]);
-        putchar("0123456789abcdef"[b->bytes[i] % 16]);
+        putchar_unlocked("0123456789abcdef"[b->bytes[i] / 16]);
+        putchar_unlocked("0123456789abcdef"[b->bytes[i] % 16]);
     }
     putchar('\n');
 }
@@ -128,6 +129,8 @@ int main(void)
             printf("%" PRIu64 "\n", gil_write(LENT(MAP), LENT(IMAGE), n[0], LENT(PIECE), n[1]));
         else if (strcmp(name, "restart") == 0)
             printf("%" PRIu64 "\n", gil_restart(LENT(MAP), LENT(LOG)));
+        else if (strcmp(name, "compact") == 0)
+            printf("%" PRIu64 "\n", gil_compact(LENT(LOG), LENT(NEW_LOG)));
         else {
             fprintf(stderr, "caller: no such call: %s\n", name);
             return 1;

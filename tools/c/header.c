@@ -74,7 +74,7 @@ IS(offsetof(gil_item, refusal), 5 * 8);
 IS(offsetof(gil_item, events), 7 * 8);
 
 static uint8_t table[GIL_TABLE_BYTES], events[GIL_EVENTS_BYTES], map[GIL_MAP_BYTES], log_bytes[GIL_LOG_BYTES];
-static uint8_t list_events[GIL_LIST_EVENTS_BYTES], image[100 * GIL_MAX_RUNS];
+static uint8_t list_events[GIL_LIST_EVENTS_BYTES], image[100 * GIL_MAX_RUNS], new_log[GIL_LOG_BYTES];
 static gil_item items[GIL_MAX_ITEMS + 1];
 
 static void check(int holds, const char *what, int line)
@@ -302,6 +302,96 @@ static void stripe(void)
     CHECK(gil_count(map) == GIL_MAX_RUNS);
 }
 
+/* Whether every byte of a buffer is this one. */
+static int all(const uint8_t *bytes, size_t length, uint8_t byte)
+{
+    while (length > 0 && bytes[length - 1] == byte)
+        length--;
+    return length == 0;
+}
+
+static void compact(void)
+{
+    static uint8_t before[sizeof log_bytes], again[sizeof log_bytes];
+    size_t m = sizeof map, l = sizeof log_bytes;
+    /* 1,025 runs apart from each other, of number 2; the older entries under them are no runs */
+    memset(log_bytes, 0xee, l); /* after the last entry, bytes may be anything */
+    for (size_t i = 0; i <= GIL_MAX_RUNS; i++) {
+        uint8_t *entry = log_bytes + gil_entry_place(GIL_MAX_RUNS - i); /* falling */
+        memset(entry, 0, GIL_BYTES_PER_RUN);
+        put_u32(entry + 4, 2 * i);
+        put_u32(entry + 12, 2 * i);
+        put_u32(entry + 16, 2);
+    }
+    for (size_t i = GIL_MAX_RUNS + 1; i < GIL_MAX_ENTRIES; i++) {
+        memcpy(log_bytes + gil_entry_place(i), log_bytes + gil_entry_place(i - GIL_MAX_RUNS), GIL_BYTES_PER_RUN);
+        put_u32(log_bytes + gil_entry_place(i) + 16, 1);
+    }
+    put_u32(log_bytes, GIL_MAX_ENTRIES);
+    memcpy(before, log_bytes, l);
+    memset(new_log, 0xdd, l);
+    printf("gil_compact:");
+    CHECK(gil_compact(log_bytes, l - 1, new_log, l) == GIL_REFUSED_LOG);
+    CHECK(gil_compact(log_bytes, l, new_log, l - 1) == GIL_REFUSED_LOG);
+    put_u32(log_bytes, GIL_MAX_ENTRIES + 1);
+    CHECK(gil_compact(log_bytes, l, new_log, l) == GIL_REFUSED_LOG);
+    put_u32(log_bytes, GIL_MAX_ENTRIES);
+    STEP(LOG, gil_compact(log_bytes, l, new_log, m));
+    STEP(RUNS, gil_compact(log_bytes, l, new_log, l));
+    CHECK(all(new_log, l, 0xdd) && memcmp(log_bytes, before, l) == 0);
+    /* the first entry is the last run; now it is an older entry too, under the first run */
+    put_u32(log_bytes + gil_entry_place(0) + 4, 0);
+    put_u32(log_bytes + gil_entry_place(0) + 12, 0);
+    put_u32(log_bytes + gil_entry_place(0) + 16, 1);
+    memcpy(before, log_bytes, l);
+    LAST(gil_compact(log_bytes, l, new_log, l));
+    CHECK(memcmp(log_bytes, before, l) == 0 && gil_count(new_log) == GIL_MAX_RUNS);
+    for (size_t i = 0; i < GIL_MAX_RUNS; i++) {
+        const uint8_t *entry = new_log + gil_entry_place(i);
+        CHECK(gil_u64_at(entry) == 2 * i && gil_u64_at(entry + 8) == 2 * i && gil_u32_at(entry + 16) == 2);
+    }
+    CHECK(all(new_log + gil_entry_place(GIL_MAX_RUNS), l - gil_entry_place(GIL_MAX_RUNS), 0));
+    CHECK(gil_compact(new_log, l, again, l) == 0 && memcmp(new_log, again, l) == 0);
+    /* the full log had no room; the new one takes 1,024 notes, and the 1,025th is refused */
+    CHECK(gil_restart(map, m, log_bytes, l) == 0 && note(m, l, 0, 1, 3) == GIL_REFUSED_ENTRIES);
+    memcpy(log_bytes, new_log, l);
+    CHECK(gil_restart(map, m, log_bytes, l) == 0);
+    for (int i = 0; i < GIL_MAX_ENTRIES - GIL_MAX_RUNS; i++)
+        CHECK(note(m, l, 0, 1, 3) == 0);
+    CHECK(note(m, l, 0, 1, 3) == GIL_REFUSED_ENTRIES);
+}
+
+/* As many pieces as gil_pieces_that_fit says, and the most runs that they can make: 511 apart from each other, and an
+ * older one that fills every gap. */
+static void pieces(void)
+{
+    size_t m = sizeof map, l = sizeof log_bytes;
+    memset(map, 0, m);
+    memset(log_bytes, 0, l);
+    CHECK(gil_pieces_that_fit(map) == 512);
+    for (uint32_t i = 0; i < 100; i++)
+        CHECK(gil_pieces_that_fit(map) == 512 - i && note(m, l, 4 * i + 1, 1, 2) == 0);
+    for (uint32_t left = gil_pieces_that_fit(map), i = 100; left > 1; left--, i++)
+        CHECK(note(m, l, 4 * i + 1, 1, 2) == 0);
+    CHECK(gil_pieces_that_fit(map) == 1 && note(m, l, 0, sizeof image, 1) == 0);
+    CHECK(gil_count(map) == 2 * 512 - 1 && gil_pieces_that_fit(map) == 0);
+}
+
+/* A way to a log that starts again: PW over all bytes asks every lock back, and later requests wait behind it. */
+static void quiet(void)
+{
+    size_t t = sizeof table, e = sizeof events;
+    memset(table, 0, t);
+    CHECK(ask(t, e, 0, 0, GIL_MODE_PR, 100, 109) == 0 && gil_count(events) == 1);
+    CHECK(ask(t, e, 1, 0, GIL_MODE_NBW, 0, 9) == 0 && gil_count(events) == 1);
+    CHECK(ask(t, e, 63, 0, GIL_MODE_PW, 0, GIL_EOF) == 0 && gil_count(events) == 2);
+    CHECK(gil_event_at(events, 0).kind == GIL_EVENT_REVOCATION && gil_event_at(events, 1).kind == GIL_EVENT_REVOCATION);
+    CHECK(ask(t, e, 2, 0, GIL_MODE_NBW, 0, 9) == 0 && gil_count(events) == 0);
+    CHECK(gil_release(table, t, events, e, 1, 2).events == 0);
+    CHECK(gil_release(table, t, events, e, 0, 1).events == 1 && gil_event_at(events, 0).client == 63);
+    CHECK(gil_release(table, t, events, e, 63, 3).events == 1 && gil_event_at(events, 0).client == 2);
+}
+
 /* Every refusal has a sentence of its own; no other number has one. */
 static void texts(void)
 {
@@ -413,6 +503,11 @@ static void null_buffers(void)
     CHECK(gil_restart(NULL, 0, log_bytes, l) == GIL_REFUSED_MAP);
     CHECK(gil_restart(map, m, NULL, 0) == GIL_REFUSED_LOG);
     CHECK(gil_restart(NULL, 0, NULL, 0) == GIL_REFUSED_MAP);
+    memset(new_log, 0, l);
+    CHECK(gil_compact(NULL, 0, new_log, l) == GIL_REFUSED_LOG);
+    CHECK(gil_compact(log_bytes, l, NULL, 0) == GIL_REFUSED_LOG);
+    CHECK(gil_compact(NULL, 0, NULL, 0) == GIL_REFUSED_LOG);
+    CHECK(memcmp(new_log, zeros, l) == 0);
     CHECK(memcmp(map, zeros, m) == 0 && memcmp(log_bytes, zeros, l) == 0);
     CHECK(note(m, l, 0, 1, 1) == 0 && image[0] == 0);
     CHECK(gil_write(NULL, 0, image, n, 0, one, 1, 1) == GIL_REFUSED_MAP);
@@ -437,16 +532,17 @@ static void deep_calls(void)
     for (uint64_t i = 0; i < 500; i++)
         CHECK(note(m, l, 200 * i, 100, 2 + i) == 0);
     CHECK(gil_count(map) == 1000 && gil_write(map, m, image, n, 0, piece, n, 1) == 0);
-    /* a note that meets every run, and a restart of the log when it is full, which draws them again */
+    /* a note that meets every run, and a restart and a compaction of the log when it is full, which draw them again */
     CHECK(note(m, l, 1, n - 1, 500) == 0 && note(m, l, 0, n, 1) == 0);
     while (gil_count(log_bytes) < GIL_MAX_ENTRIES)
         CHECK(note(m, l, 2 * (uint64_t)gil_count(log_bytes), 1, 500) == 0);
-    CHECK(gil_restart(map, m, log_bytes, l) == 0);
+    CHECK(gil_restart(map, m, log_bytes, l) == 0 && gil_compact(log_bytes, l, new_log, l) == 0);
     for (size_t i = 0; i < GIL_MAX_ENTRIES; i++) {
         put_u32(log_bytes + gil_entry_place(i) + 4, 2 * (uint64_t)(i % GIL_MAX_RUNS));
         put_u32(log_bytes + gil_entry_place(i) + 12, 2 * (uint64_t)(i % GIL_MAX_RUNS));
     }
     CHECK(gil_restart(map, m, log_bytes, l) == 0 && gil_count(map) == GIL_MAX_RUNS);
+    CHECK(gil_compact(log_bytes, l, new_log, l) == 0 && gil_count(new_log) == GIL_MAX_RUNS);
     CHECK(note(m, l, 0, n, GIL_HIGHEST) == GIL_REFUSED_ENTRIES);
     /* an acknowledge that grants 254 requests, and a request, a refused downgrade and a release among 256 records */
     memset(table, 0, t);
@@ -475,6 +571,9 @@ static void *everything(void *nothing)
     name_handle("gil_downgrade", gil_downgrade, GIL_MODE_PW, 1);
     name_handle("gil_release", gil_release, GIL_MODE_PR, 0);
     stripe();
+    compact();
+    pieces();
+    quiet();
     texts();
     codes();
     most_events();

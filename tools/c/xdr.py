@@ -77,6 +77,10 @@ def encode_map(runs):
     return encode(runs).ljust(MAP, b"\0")
 
 
+def encode_log(entries):
+    return encode(entries).ljust(LOG, b"\0")
+
+
 class Caller:
     def __init__(self, words):
         self.process = subprocess.Popen(words, stdin=subprocess.PIPE, stdout=subprocess.PIPE, text=True)
@@ -291,8 +295,16 @@ def drawn(entries, length):
     return runs
 
 
+def compacted(caller, log, runs, before):
+    """The caller's log, which is this one, is compacted to these runs; before is what the second buffer held."""
+    caller.put("new_log", before)
+    same("a compaction", caller("compact"), 0)
+    same("the log after a compaction", caller.get("log"), log)
+    same("the new log", caller.get("new_log"), encode_log(runs))
+
+
 def stripe(caller, chance):
-    """Notes, a restart and writes on one stripe, with map and log through xdrlib and back."""
+    """Notes, compactions, a restart and writes on one stripe, with map and log through xdrlib and back."""
     length = chance.randint(1, 80)
     image = bytes(chance.randrange(256) for _ in range(length))
     tail = bytes(chance.randrange(256) for _ in range(LOG))  # bytes after the last entry may be anything
@@ -310,6 +322,7 @@ def stripe(caller, chance):
     same("the log's entries", decode(Run, data)[0], entries)
     same("the log encoded again", encode(entries) + tail[len(encode(entries)) :], data)
     same("the map", caller.get("map"), encode_map(drawn(entries, length)))
+    compacted(caller, data, drawn(entries, length), tail)
 
     # The other way round: a log in another order and with an entry more, and the map that a restart makes of it.
     entries.append(Run(chance.randrange(length), EOF, chance.randint(1, 5)))
@@ -321,7 +334,17 @@ def stripe(caller, chance):
     same("the log after a restart", caller.get("log"), data)
     runs = decode(Run, caller.get("map"))[0]
     same("the map encoded again", encode_map(runs), caller.get("map"))
-    same("the map of a log", [run._replace(last=min(run.last, length - 1)) for run in runs if run.first < length], drawn(entries, length))
+    owners = drawn(entries, length + 1)
+    owners[-1] = owners[-1]._replace(last=EOF)  # that last byte is the new entry's, as all after it are
+    same("the map of a log", runs, owners)
+
+    # A turn to the new log: a restart makes the same map of it, and it is compacted already.
+    compacted(caller, data, owners, tail)
+    caller.put("log", encode_log(owners))
+    caller.put("map", tail[:MAP])
+    same("a restart after a turn", caller("restart"), 0)
+    same("the map after a turn", caller.get("map"), encode_map(owners))
+    compacted(caller, encode_log(owners), owners, tail)
 
     # A map that xdrlib encoded tells a write where to store.
     caller.put("map", encode_map(runs))
@@ -338,7 +361,7 @@ def picture(caller):
     """P8 to P10 of document 01, from a log that xdrlib encoded."""
     a, b, c = Run(0, 5, 2), Run(4, 7, 1), Run(5, 7, 3)
     caller.put("image", b"..........")
-    caller.put("log", encode([a, b, c]).ljust(LOG, b"\0"))
+    caller.put("log", encode_log([a, b, c]))
     caller.put("map", bytes(MAP))
     same("P8: restart", caller("restart"), 0)
     same("P8: map", caller.get("map"), encode_map([Run(0, 4, 2), Run(5, 7, 3)]))
@@ -348,9 +371,42 @@ def picture(caller):
     same("P8: image", caller.get("image"), b"AAAAACCC..")
     same("P9: note", caller("note", 8, 2, 3), 0)
     same("P9: map", caller.get("map"), encode_map([Run(0, 4, 2), Run(5, 9, 3)]))
-    same("P9: log", caller.get("log"), encode([a, b, c, Run(8, 9, 3)]).ljust(LOG, b"\0"))
+    log = encode_log([a, b, c, Run(8, 9, 3)])
+    same("P9: log", caller.get("log"), log)
+    compacted(caller, log, [Run(0, 4, 2), Run(5, 9, 3)], bytes(LOG))
     caller.put("piece", b"DD")
     same("P10", caller("write", 8, 4), 18)
+
+
+def rooms(caller):
+    """Compactions of logs that xdrlib encoded: the most runs, one more, logs that are not sound, and other lengths."""
+    apart = [Run(2 * i, 2 * i, 7) for i in range(1025)]
+    under = [Run(0, EOF, 1)] * 2  # fills the gaps between newer runs, and what is before and after them
+    gaps = [Run(0, 1, 1)] + [Run(2 * i + 1, 2 * i + 1, 1) for i in range(1, 511)] + [Run(1023, EOF, 1)]
+    cases = [
+        ("no entry", encode([]), LOG, 0, []),
+        ("1,024 runs", encode(apart[:0:-1]), LOG, 0, apart[1:]),
+        ("1,025 runs", encode(apart), LOG, 16, None),
+        ("1,025 runs of 514 entries", encode(apart[1:513] + under), LOG, 16, None),
+        ("1,023 runs of 513 entries", encode(apart[1:512] + under), LOG, 0, sorted(apart[1:512] + gaps)),
+        ("2,048 entries", encode([Run(5, 6, 4_294_967_295)] * 2048), LOG, 0, [Run(5, 6, 4_294_967_295)]),
+        ("2,049 entries", encode([Run(5, 6, 1)] * 2049), LOG, 13, None),
+        ("number 0", encode([Run(5, 6, 0)]), LOG, 13, None),
+        ("first above last", encode([Run(6, 5, 1)]), LOG, 13, None),
+        ("past EOF", encode([Run(5, EOF + 1, 1)]), LOG, 13, None),
+        ("a second log that is shorter", encode(apart), LOG - 1, 13, None),
+        ("a second log that is longer", encode(apart), LOG + 1, 13, None),
+    ]
+    for what, log, length, refusal, runs in cases:
+        caller.put("log", log.ljust(LOG, b"\xee")[:LOG])
+        before = bytes(range(1, 252)) * 164
+        caller.put("new_log", before[:length])
+        same(f"a compaction of {what}", caller("compact"), refusal)
+        same(f"the new log of {what}", caller.get("new_log"), before[:length] if runs is None else encode_log(runs))
+    for length in (0, LOG - 1, LOG + 1):
+        caller.put("log", bytes(length))
+        caller.put("new_log", bytes(LOG))
+        same("a log of another length", caller("compact"), 13)
 
 
 def main():
@@ -363,12 +419,13 @@ def main():
     examples(caller)
     lists(caller)
     picture(caller)
+    rooms(caller)
     accepted = sum(session(caller, chance, 150) for _ in range(4))
     for _ in range(150):
         stripe(caller, chance)
     if accepted < 200:
         sys.exit(f"xdr: only {accepted} messages and items were accepted")
-    print(f"xdr: P1 to P4, P8 to P10, lists, {accepted} messages and items and 150 stripes, both ways the same", file=sys.stderr)
+    print(f"xdr: P1 to P4, P8 to P10, lists, {accepted} messages and items, compactions and 150 stripes, both ways the same", file=sys.stderr)
 
 
 main()
