@@ -5,7 +5,8 @@
  * the program is killed at some msync, right after such sectors; most often at those of a turn, which are few.
  *
  * -DIMPATIENT ignores the msync of an entry: a program that does not wait between entry and count.
- * -DHASTY does the msync of a new log after that of the word: a program that turns before the new log is durable.
+ * -DHASTY does the msync of a new log after that of the word: a program that turns before the new log is durable. It is
+ * killed between the two alone.
  */
 #define _POSIX_C_SOURCE 200809L
 #include <gilboreth.h>
@@ -27,6 +28,7 @@ static struct mapped {
     int file;
 } files[4];
 static size_t count;
+static int cuts;
 
 static int chance(int of)
 {
@@ -53,10 +55,13 @@ static void store_some_sectors(int of)
 
 void *__wrap_mmap(void *address, size_t length, int protection, int flags, int file, off_t offset)
 {
+    const char *seed = getenv("GIL_CUT");
     struct mapped *m = &files[count++];
     (void)flags;
     if (count > sizeof files / sizeof *files)
         abort();
+    cuts = seed != NULL && strcmp(seed, "0") != 0;
+    srand(cuts ? (unsigned)strtoul(seed, NULL, 10) : 0);
     m->memory = __real_mmap(address, length, protection, MAP_PRIVATE, file, offset);
     m->stored = malloc(length);
     m->length = length;
@@ -67,14 +72,9 @@ void *__wrap_mmap(void *address, size_t length, int protection, int flags, int f
     return m->memory;
 }
 
+/* Loses power, one time of so many. */
 static void perhaps_cut(int of)
 {
-    static int seeded, cuts;
-    if (!seeded++) {
-        const char *seed = getenv("GIL_CUT");
-        cuts = seed != NULL && strcmp(seed, "0") != 0;
-        srand(cuts ? (unsigned)strtoul(seed, NULL, 10) : 0);
-    }
     if (cuts && chance(of)) {
         store_some_sectors(2);
         raise(SIGKILL);
@@ -89,16 +89,11 @@ int __wrap_msync(void *address, size_t length, int flags)
     if (m == files + count)
         abort();
     size_t first = (size_t)((uint8_t *)address - m->memory);
-    int word = m->length == sizeof(uint32_t), new_log = m->length == GIL_LOG_BYTES && length == GIL_LOG_BYTES;
-    (void)flags;
+    /* What was waited for before is no part of a turn: at its start a program waits for all of its files. */
     int stored = memcmp(m->memory, m->stored, m->length) == 0;
-    perhaps_cut((word || new_log) && !stored ? 5 : 80);
-    if (chance(4))
-        store_some_sectors(2);
-#ifdef IMPATIENT
-    if (m->length == GIL_LOG_BYTES && !new_log && length != sizeof(uint32_t))
-        return 0;
-#endif
+    int word = !stored && m->length == sizeof(uint32_t);
+    int new_log = !stored && m->length == GIL_LOG_BYTES && length == GIL_LOG_BYTES;
+    (void)flags;
 #ifdef HASTY
     static struct mapped *late;
     if (new_log) {
@@ -106,11 +101,19 @@ int __wrap_msync(void *address, size_t length, int flags)
         return 0;
     }
     if (word && late != NULL) {
-        store(m, 0, m->length);
-        perhaps_cut(5);
+        store(m, first, first + length);
+        perhaps_cut(2);
         m = late;
         length = m->length;
     }
+#else
+    perhaps_cut(word || new_log ? 5 : 80);
+#endif
+    if (chance(4))
+        store_some_sectors(2);
+#ifdef IMPATIENT
+    if (m->length == GIL_LOG_BYTES && !new_log && length != sizeof(uint32_t))
+        return 0;
 #endif
     store(m, first, first + length);
     return 0;
