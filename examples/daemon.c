@@ -2,9 +2,9 @@
  *
  *     daemon DIRECTORY LENGTH
  *
- * DIRECTORY/image holds the stripe's image of LENGTH bytes. Its log is DIRECTORY/log or DIRECTORY/log2, as the word of
- * 4 bytes in DIRECTORY/turn says, big-endian: 0 for log, 1 for log2. A file that is missing is made of zero bytes. The
- * daemon restarts from the log, and then serves standard input, a command a line:
+ * DIRECTORY/image holds the stripe's image of LENGTH bytes. Its log is DIRECTORY/log or DIRECTORY/log2, as the word
+ * in DIRECTORY/turn says: 4 bytes, big-endian, 0 for log and 1 for log2. A file that is missing is made of zero
+ * bytes. The daemon restarts from the log, and then serves standard input, a command a line:
  *
  *     note FIRST LENGTH NUMBER    notes a piece
  *     write FIRST NUMBER BYTES    writes a noted piece; BYTES is the rest of the line
@@ -37,7 +37,7 @@
 #include <sys/stat.h>
 #include <unistd.h>
 
-/* So many entries are a log that is nearly full. A compacted one has at most 1,024, so about as many notes follow. */
+/* So many entries are a log that is nearly full. A compacted one has at most 1,024, so at least 976 notes follow. */
 #ifndef COMPACT_AT
 #define COMPACT_AT 2000
 #endif
@@ -69,8 +69,8 @@ static void make_durable(uint8_t *mapped, size_t first, size_t length)
         die("msync");
 }
 
-/* Maps a file of this length; makes it of zero bytes where it is missing. What a kill left in it may not be durable yet,
- * and the answers to come rest on it: so that is waited for. */
+/* Maps a file of this length; makes it of zero bytes where it is missing. What a killed daemon stored may not be
+ * durable yet, and the answers to come rest on it: so that is waited for. */
 static uint8_t *map_file(int directory, const char *name, size_t length)
 {
     struct stat status;
@@ -91,8 +91,8 @@ static uint8_t *map_file(int directory, const char *name, size_t length)
     return mapped;
 }
 
-/* Puts a word at the start of a mapped file. It is one store, since a cut amid its bytes would leave a word that never
- * was. */
+/* Puts a word at the start of a mapped file. It is one store, since a cut amid its bytes would leave a word that
+ * never was. */
 static void put_word(uint8_t *mapped, const uint8_t word[WORD_BYTES])
 {
     uint32_t bytes; /* big-endian, as they stand in the file */
@@ -117,8 +117,9 @@ static void carry_out(struct stripe *s)
     put_word(stored_log(s), s->log);
 }
 
-/* Fills the other log with the runs of the log's map, and turns to it, so that a cut finds either log. The wait before
- * the turn keeps the storage from putting the word down earlier. There is one thread, so no note comes between. */
+/* Fills the other log with the runs of the log's map, and turns to it, so that a cut finds either log. The wait
+ * before the turn keeps the storage from putting the word down earlier. There is one thread, so no note comes between
+ * the call and the turn. */
 static uint64_t compact(struct stripe *s)
 {
     static const uint8_t words[2][WORD_BYTES] = {{0, 0, 0, 0}, {0, 0, 0, 1}};

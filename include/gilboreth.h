@@ -75,8 +75,8 @@ extern "C" {
  * the call has returned, put the new table down whole beside the old one, and turn to it by one step, as a
  * rename. Send the events only once that is durable: a grant that the table forgets would be given twice.
  *
- * After a cut, and at every start: read the log as it is stored, wait until all that you read is durable (what
- * a kill left may not be yet), and call gil_restart on it. No note and no write before a restart has answered 0.
+ * After a cut, and at every start: read the log as it is stored, and call gil_restart on it. No note and no write
+ * before a restart has answered 0, and before what you read is durable: what a killed daemon stored may not be yet.
  * If the storage fails while you put something down or wait for it, go on as after a cut.
  *
  * Room in the log. A log has at most 2,048 entries, so GIL_MAX_ENTRIES - gil_count(log) more notes fit. gil_compact
@@ -85,8 +85,8 @@ extern "C" {
  *   2. Put the new log down, whole, where the stored log is not. Wait until it is durable.
  *   3. Turn to it: one store, of a word that says which log is the stored one, or a rename. Wait until it is durable.
  *   4. Only now comes the next note, on the new log. The map stays as it is.
- * A cut finds either log, and both have the same map. After a cut the log is the one that the word names. What
- * stands in the other is of no use: compact anew.
+ * A cut finds either log, and both have the same map. After a cut the log is the one that the word names, or that
+ * has the name. What stands in the other is of no use: compact anew.
  * No note from step 1 to step 4: its entry would stand in the old log alone, and be lost by the turn. If one was
  * accepted before the turn all the same, begin again at step 1. Writes and restarts may come between.
  *
@@ -106,9 +106,9 @@ extern "C" {
  * A log that starts again. Only when no older piece can come any more: every write lock of the stripe is
  * released, and every noted piece is written. Then put down 0 for the count of the stored log as one store, wait
  * until it is durable, and restart: log and map are empty. Keep the table: its numbers go on rising.
- * A way there: request PW for bytes 0 to EOF of the stripe, for a client number of your own. It asks every lock
- * back, and later requests wait behind it. Once it is granted no other lock is held: start the log again, and
- * release it.
+ * A way there: request PW for bytes 0 to EOF of the stripe, for a client number of your own. It asks every lock of
+ * the stripe back, and later requests wait behind it. Once it is granted no other lock of the stripe is held: start
+ * the log again, and release it.
  *
  * What this gives (proved, with cuts anywhere, and compactions and turns among the steps): once each noted piece
  * had a write accepted, and the last accepted write of every piece ran to its end, each byte under a noted piece
