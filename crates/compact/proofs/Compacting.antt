@@ -1,7 +1,7 @@
--- `compact`: the outcome by each answer.
+-- `by_scratch`: the outcome by each answer.
 use Prim.Native.Nat.{ℕ, _+_, _-_, _≤_, _<_}
 use native.Mathlib.Omega.{arith}
-use mathlib.Core.Path.{_≡_, refl, sym, ap, _∙_}
+use mathlib.Core.Path.{_≡_, refl, sym, ap, subst, _∙_}
 use mathlib.Core.Bool.{Bool, true, false, not}
 use mathlib.Core.List.{List, map, _++_}
 use lib.ListN.{length, take, drop, replicate, length-replicate, length-drop, length-map, replicate-append-replicate}
@@ -62,23 +62,28 @@ module _ (l n : List ℕ) where
   unfolding compactLog
   accepted n′ e u = record { answers = e; log = rw (← e) u }
 
-  pub compact-13 : (length n ≡ logSize width → ⊥) → Compacts l n 13 n
+  pub short-13 : (length n ≡ logSize width → ⊥) → Compacts l n 13 n
   unfolding compactAnswer
-  compact-13 h = refused 13 (λ z. omega arith) (rw (ne-eqb (length n) (logSize width) h))
+  short-13 h = refused 13 (λ z. omega arith) (rw (ne-eqb (length n) (logSize width) h))
 
   module _ (fits : length n ≡ logSize width) (b : Bool) (e : b ≡ soundLogBytes l) where
-    pub compact-unsound : not b ≡ true → Compacts l n 13 n
+    pub unsound-13 : not b ≡ true → Compacts l n 13 n
     unfolding compactAnswer
-    compact-unsound h = refused 13 (λ z. omega arith) (rw (eq-eqb (length n) (logSize width) fits, ← e, h))
+    unsound-13 h = refused 13 (λ z. omega arith) (rw (eq-eqb (length n) (logSize width) fits, ← e, h))
 
-    module _ (good : not b ≡ false) (s : List ℕ) (k : ℕ) (d : Stored (mapOf (runsOf width l)) (replicate (mapSize width) 0) s k) where
-      pub compact-16 : maxRuns < k → Compacts l n 16 n
-      unfolding compactAnswer
-      compact-16 h = refused 16 (λ z. omega arith) (rw (eq-eqb (length n) (logSize width) fits, ← e, good, ← d .count, lt-ltb maxRuns k h))
+    module _ (good : not b ≡ false) (z s : List ℕ) (k : ℕ) (blank : z ≡ replicate (mapSize width) 0) (drawn : Stored (mapOf (runsOf width l)) z s k) where
+      d : Stored (mapOf (runsOf width l)) (replicate (mapSize width) 0) s k
+      d = subst (λ (x : List ℕ). Stored (mapOf (runsOf width l)) x s k) blank drawn
 
-      pub compact-0 : k ≤ maxRuns → (n′ : List ℕ) → n′ ≡ putBe 4 (cleared (mapSize width) (take (length s) s ++ drop (length s) n)) 0 k → Compacts l n 0 n′
+      pub many-16 : maxRuns < k → Compacts l n 16 n
       unfolding compactAnswer
-      compact-0 h n′ q =
+      many-16 h = refused 16 (λ z. omega arith) (rw (eq-eqb (length n) (logSize width) fits, ← e, good, ← d .count, lt-ltb maxRuns k h))
+
+      -- what is drawn is copied, zeros come behind it, and the runs are counted
+      pub few-0 : k ≤ maxRuns → (copied clear n′ : List ℕ)
+          → copied ≡ take (length s) s ++ drop (length s) n → clear ≡ cleared (mapSize width) copied → n′ ≡ putBe 4 clear 0 k → Compacts l n 0 n′
+      unfolding compactAnswer
+      few-0 h copied clear n′ c x p =
           accepted n′
           (rw (eq-eqb (length n) (logSize width) fits, ← e, good, ← d .count, le-ltb maxRuns k h))
-          (q ∙ filled (mapOf (runsOf width l)) s k d h n fits)
+          (p ∙ ap (λ (x : List ℕ). putBe 4 x 0 k) (x ∙ ap (cleared (mapSize width)) c) ∙ filled (mapOf (runsOf width l)) s k d h n fits)
