@@ -149,6 +149,16 @@ impl Beside {
         answer
     }
 
+    pub fn compact(&mut self, old_log: &[u8], new_log: &mut [u8]) -> u64 {
+        let (mut lent_old, mut lent_new) = (self.lend(old_log), self.lend(new_log));
+        let tested = (self.calls.compact)(lent_old.own(), lent_new.own());
+        let answer = (MODEL.compact)(old_log, new_log);
+        let buffers = [("old log", lent_old, old_log), ("new log", lent_new, &*new_log)];
+        self.agree(format_args!("compact"), tested, answer, &buffers);
+        self.answers[answer as usize] += 1;
+        answer
+    }
+
     /// A copy to lend. From call to call it begins at another address modulo 16.
     fn lend(&self, buffer: &[u8]) -> Lent<u8> {
         Lent::new(buffer, 1 + self.compared() as usize % 16)

@@ -15,6 +15,7 @@ pub type RequestList = fn(&mut [u8], &mut [u8], &mut [Item]) -> Answer;
 pub type Note = fn(&mut [u8], &mut [u8], Piece<u64>, u64) -> u64;
 pub type Write = fn(&[u8], &mut [u8], Piece<&[u8]>) -> u64;
 pub type Restart = fn(&mut [u8], &[u8]) -> u64;
+pub type Compact = fn(&[u8], &mut [u8]) -> u64;
 
 #[derive(Clone, Copy)]
 pub struct Calls {
@@ -26,6 +27,7 @@ pub struct Calls {
     pub note: Note,
     pub write: Write,
     pub restart: Restart,
+    pub compact: Compact,
 }
 
 impl Calls {
@@ -55,6 +57,7 @@ pub const MODEL: Calls = Calls {
     note: model::stripe::note,
     write: model::stripe::write,
     restart: model::stripe::restart,
+    compact: model::stripe::compact,
 };
 
 /// The model has items of its own.
@@ -94,6 +97,7 @@ pub const LIBRARY: Calls = Calls {
         entries::write(map, image, first, bytes, number)
     },
     restart: entries::restart,
+    compact: entries::compact,
 };
 
 fn answer(entries::Answer { refusal, handle, events }: entries::Answer) -> Answer {
@@ -109,4 +113,5 @@ pub const SHIPPED: Calls = Calls {
     note: shipped::stripe::note,
     write: shipped::stripe::write,
     restart: shipped::stripe::restart,
+    compact: shipped::stripe::compact,
 };

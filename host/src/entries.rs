@@ -4,7 +4,7 @@
 //! length 0. A slice is never null, and where two slices of one call overlap both are only read.
 //!
 //! ```
-//! use gilboreth_host::entries::{note, request, request_list, Answer, Item};
+//! use gilboreth_host::entries::{compact, note, request, request_list, Answer, Item};
 //!
 //! let (mut table, mut events) = ([0; 11_336], [0; 11_268]);
 //! let answer = request(&mut table, &mut events, 0, 0, 2, 0, 20);
@@ -20,6 +20,7 @@
 //! let (mut map, mut log) = ([0; 20_484], [0; 40_964]);
 //! assert_eq!(note(&mut map, &mut log, 4, 0, 1, 10), 14);
 //! assert_eq!(note(&mut map, &mut log[1..], 4, 4, 1, 10), 13);
+//! assert_eq!(compact(&log, &mut [0; 40_963]), 13);
 //! ```
 
 /// A message's answer as C returns it, by value. A refused one has handle 0 and event count 0.
@@ -143,6 +144,7 @@ extern "C" {
         number: u64,
     ) -> u64;
     fn gil_restart(map: *mut u8, map_len: usize, log: *const u8, log_len: usize) -> u64;
+    fn gil_compact(old_log: *const u8, old_len: usize, new_log: *mut u8, new_len: usize) -> u64;
 }
 
 /// Refused with 12 to 17.
@@ -167,4 +169,9 @@ pub fn write(map: &[u8], image: &mut [u8], first: u64, piece: &[u8], number: u64
 /// Refused with 12 (length only), 13, 16.
 pub fn restart(map: &mut [u8], log: &[u8]) -> u64 {
     unsafe { gil_restart(map.as_mut_ptr(), map.len(), log.as_ptr(), log.len()) }
+}
+
+/// Refused with 13 (either length, or an unsound old log), 16.
+pub fn compact(old_log: &[u8], new_log: &mut [u8]) -> u64 {
+    unsafe { gil_compact(old_log.as_ptr(), old_log.len(), new_log.as_mut_ptr(), new_log.len()) }
 }

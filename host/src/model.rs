@@ -1,4 +1,4 @@
-//! The model of document 01 and of request #101 of document 02, written from them and from nothing else.
+//! The model of document 01 and of requests #101 and #102 of document 02, written from them and from nothing else.
 //!
 //! `modes`, `table` and `serve` are the rules for locks, `runs` those for maps and logs.
 //! `locks`, `list` and `stripe` are the same on bytes, as the C entries have them.

@@ -1,4 +1,4 @@
-//! Note, write and restart of one stripe, on bytes as the C entries have them.
+//! Note, write, restart and compaction of one stripe, on bytes as the C entries have them.
 
 use super::refusal::{self, refuse, Refusal};
 use super::runs::{map_of, numbers_over, sound_log, sound_map, Run, ENTRIES, RUNS};
@@ -53,6 +53,11 @@ pub fn restart(map: &mut [u8], log: &[u8]) -> u64 {
     answer(try_restart(map, log))
 }
 
+/// Fills the second buffer with a log whose entries are the runs of the old log's map.
+pub fn compact(old_log: &[u8], new_log: &mut [u8]) -> u64 {
+    answer(try_compact(old_log, new_log))
+}
+
 fn answer(outcome: Result<(), Refusal>) -> u64 {
     outcome.err().unwrap_or(0)
 }
@@ -95,6 +100,15 @@ fn try_restart(map: &mut [u8], log: &[u8]) -> Result<(), Refusal> {
     let rebuilt = map_of(&entries);
     refuse(refusal::RUNS, rebuilt.len() > RUNS)?;
     map.copy_from_slice(&encode_map(&rebuilt));
+    Ok(())
+}
+
+fn try_compact(old_log: &[u8], new_log: &mut [u8]) -> Result<(), Refusal> {
+    refuse(refusal::LOG, new_log.len() != LOG_BYTES)?;
+    let entries = decode_log(old_log).ok_or(refusal::LOG)?;
+    let runs = map_of(&entries);
+    refuse(refusal::RUNS, runs.len() > RUNS)?;
+    new_log.copy_from_slice(&encode_log(&runs));
     Ok(())
 }
 

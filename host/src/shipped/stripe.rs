@@ -1,10 +1,10 @@
-//! Note, write and restart of one stripe.
+//! Note, write, restart and compaction of one stripe.
 
 use super::numbers::{partition, put_u32};
 use super::runs::{offset, sound_log, sound_map, Pen, Run};
 use crate::model::refusal::{self, refuse, Refusal};
 use crate::model::runs::{ENTRIES, RUNS};
-use crate::model::stripe::{Piece, MAP_BYTES};
+use crate::model::stripe::{Piece, LOG_BYTES, MAP_BYTES};
 use crate::model::{EOF, HIGHEST};
 use std::collections::BinaryHeap;
 
@@ -18,6 +18,10 @@ pub fn write(map: &[u8], image: &mut [u8], piece: Piece<&[u8]>) -> u64 {
 
 pub fn restart(map: &mut [u8], log: &[u8]) -> u64 {
     try_restart(map, log).err().unwrap_or(0)
+}
+
+pub fn compact(old_log: &[u8], new_log: &mut [u8]) -> u64 {
+    try_compact(old_log, new_log).err().unwrap_or(0)
 }
 
 fn try_note(
@@ -87,6 +91,22 @@ fn try_write(map: &[u8], image: &mut [u8], piece: Piece<&[u8]>) -> Result<(), Re
 
 fn try_restart(map: &mut [u8], log: &[u8]) -> Result<(), Refusal> {
     refuse(refusal::MAP, map.len() != MAP_BYTES)?;
+    map.copy_from_slice(&rebuilt(log)?.map);
+    Ok(())
+}
+
+/// A map's bytes are the same array as those of a log with its runs for entries.
+fn try_compact(old_log: &[u8], new_log: &mut [u8]) -> Result<(), Refusal> {
+    refuse(refusal::LOG, new_log.len() != LOG_BYTES)?;
+    let pen = rebuilt(old_log)?;
+    let (runs, after) = new_log.split_at_mut(MAP_BYTES);
+    runs.copy_from_slice(&pen.map);
+    after.fill(0);
+    Ok(())
+}
+
+/// The log's map in scratch.
+fn rebuilt(log: &[u8]) -> Result<Pen, Refusal> {
     let count = sound_log(log).ok_or(refusal::LOG)?;
     let mut entries: Vec<Run> = (0..count).map(|place| Run::at(log, place)).collect();
     entries.sort_unstable_by_key(|entry| entry.first);
@@ -94,8 +114,7 @@ fn try_restart(map: &mut [u8], log: &[u8]) -> Result<(), Refusal> {
     sweep(&mut pen, &entries);
     refuse(refusal::RUNS, pen.count > RUNS)?;
     put_u32(&mut pen.map, 0, pen.count as u32);
-    map.copy_from_slice(&pen.map);
-    Ok(())
+    Ok(pen)
 }
 
 /// Goes from border to border. The entries begun so far stand in a heap, the greatest number first;
