@@ -1,7 +1,7 @@
 //! The library for Rust programs: the entries with types over their bytes and numbers.
 //!
-//! `table` serves the four messages and lists of requests, `map` notes, writes and restarts; `log`, `records`, `runs` and
-//! `events` read what the entries leave. Nothing here decides anything: each call is one call of
+//! `table` serves the four messages and lists of requests, `map` notes, writes and restarts, `log` compacts; `records`,
+//! `runs` and `events` read what the entries leave. Nothing here decides anything: each call is one call of
 //! the proved library, and nothing here is taken from the model.
 
 #[macro_use]

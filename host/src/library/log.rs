@@ -1,7 +1,9 @@
-//! The log of a stripe.
+//! The log of a stripe, and its compaction.
 
 use super::buffer::array;
+use super::refusal::{accepted, Refusal};
 use super::runs::{Run, Runs};
+use crate::entries;
 use std::fmt::{Debug, Formatter, Result as Formatted};
 use std::ops::Range;
 
@@ -42,7 +44,49 @@ impl Log {
         at..at + Run::BYTES
     }
 
-    /// The entries, in note order.
+    /// Fills a second log, whatever it was, with the runs of this log's map for entries, rising.
+    ///
+    /// It says of each byte what this one says, with at most 1,024 entries, so at least 1,024 notes fit
+    /// after them. The host puts it down beside the old one, waits until it is durable, and turns to it
+    /// by one store. No note comes between the call and that store: its entry would stand in the old
+    /// log alone, and be lost. A cut finds either log; after one, compact anew.
+    ///
+    /// ```
+    /// use gilboreth_host::{Log, Map, Number, Piece, Run};
+    ///
+    /// // What is on disk: two logs, and the word that says which of them counts.
+    /// let mut disk = ([Log::new(), Log::new()], 0);
+    ///
+    /// let (mut map, mut log) = (Map::new(), Log::new());
+    /// for first in 0..2_048 {
+    ///     map.note(&mut log, Piece { first, bytes: 1, number: Number(7) }, 4_096)?;
+    /// }
+    /// assert_eq!((log.notes_that_fit(), map.runs().len()), (0, 1));
+    ///
+    /// let mut new = Log::new();
+    /// log.compact(&mut new)?;
+    /// disk.0[1] = new.clone(); // and wait until it is durable
+    /// disk.1 = 1;
+    /// log = new;
+    /// assert!(log.entries().eq([Run { first: 0, last: 2_047, number: Number(7) }]));
+    /// assert_eq!(log.notes_that_fit(), 2_047);
+    ///
+    /// // The map is still the log's.
+    /// let mut again = Map::new();
+    /// again.restart(&disk.0[disk.1])?;
+    /// assert!(again == map);
+    /// # Ok::<(), gilboreth_host::Refusal>(())
+    /// ```
+    pub fn compact(&self, new: &mut Log) -> Result<(), Refusal> {
+        accepted(entries::compact(self.bytes(), new.bytes_mut()))
+    }
+
+    /// How many notes fit before one is refused with 17. Compact before there is no room left.
+    pub fn notes_that_fit(&self) -> usize {
+        ENTRIES - self.entries().len()
+    }
+
+    /// The entries, in note order; of a log that was compacted, first the runs, rising.
     pub fn entries(&self) -> Runs<'_> {
         Runs(array(self.bytes(), Run::BYTES))
     }

@@ -85,6 +85,33 @@ impl Map {
         accepted(entries::restart(self.bytes_mut(), log.bytes()))
     }
 
+    /// How many pieces can be noted, wherever they lie and whatever their numbers, before one may be
+    /// refused with 16: 512 less the runs, or none.
+    ///
+    /// The map of n entries has at most 2n - 1 runs, and of 512 that is below 1,024. A piece may add many
+    /// at once: an old one fills every gap between newer runs. Compaction makes the log smaller, not the
+    /// map. A holder that can't note can't write and so never releases; so count the pieces that may
+    /// still be noted, of holders and of waiting write requests, and hand in no write request of this
+    /// stripe that brings them above what fits. Once every write lock of it is released and every noted
+    /// piece is written, start the log again empty.
+    ///
+    /// ```
+    /// use gilboreth_host::{Log, Map, Number, Piece};
+    ///
+    /// let (mut map, mut log) = (Map::new(), Log::new());
+    /// assert_eq!(map.pieces_that_fit(), 512);
+    /// for place in 0..300 {
+    ///     map.note(&mut log, Piece { first: 1 + 2 * place, bytes: 1, number: Number(9) }, 4_096)?;
+    /// }
+    /// assert_eq!((map.runs().len(), map.pieces_that_fit()), (300, 212));
+    /// map.note(&mut log, Piece { first: 0, bytes: 601, number: Number(8) }, 4_096)?;
+    /// assert_eq!((map.runs().len(), map.pieces_that_fit()), (601, 0));
+    /// # Ok::<(), gilboreth_host::Refusal>(())
+    /// ```
+    pub fn pieces_that_fit(&self) -> usize {
+        (RUNS / 2).saturating_sub(self.runs().len())
+    }
+
     /// The runs, rising.
     pub fn runs(&self) -> Runs<'_> {
         Runs(array(self.bytes(), Run::BYTES))

@@ -7,7 +7,7 @@ use std::fmt::{Display, Formatter, Result as Formatted};
 ///
 /// A request is judged by 1 to 8 in this order, the other messages by 1, 2, 3, 9, 10, 11, a list by 1,
 /// 2, 19 and each of its items by 3 to 8, a note by 12 to 17, a write by 12, 14, 15, 18, a restart by 12
-/// (length only), 13, 16. The first hit answers.
+/// (length only), 13, 16, a compaction by 13, 16. The first hit answers.
 ///
 /// ```
 /// use gilboreth_host::{EventBuffer, Mode, Refusal, Table};
