@@ -45,19 +45,24 @@ fn locks() {
 
 #[test]
 fn stripe() {
-    use stripe_scenes::{cuts, damage, edges, limits, pieces, restarts};
+    use stripe_scenes::{compactions, cuts, damage, edges, limits, pieces, restarts};
     let mut shipped = Beside::new(SHIPPED);
     pieces::small(&mut shipped, 0..200);
     pieces::large(&mut shipped, 0..10);
     cuts::crowded(&mut shipped, 0..100);
+    cuts::compacted(&mut shipped, 0..100, false);
     cuts::at_the_limit_of_runs(&mut shipped, 0..1);
     cuts::at_the_limit_of_entries(&mut shipped, 0..1);
+    cuts::past_the_limit_of_entries(&mut shipped, 0..1);
     limits::notes(&mut shipped);
     limits::drawn_notes(&mut shipped, 0..20);
     limits::restarts(&mut shipped, 0..1);
     limits::full_logs(&mut shipped, 0..2);
     restarts::of_every_kind(&mut shipped);
     restarts::crowded(&mut shipped, 0..400);
+    compactions::over_any_content(&mut shipped, 0..20);
+    compactions::at_the_limit_of_runs(&mut shipped);
+    compactions::notes_after(&mut shipped);
     edges::notes(&mut shipped);
     edges::writes(&mut shipped);
     edges::fields(&mut shipped);
@@ -67,5 +72,5 @@ fn stripe() {
     damage::each_bit(&mut shipped);
     damage::each_run(&mut shipped);
     damage::each_byte_after(&mut shipped);
-    shipped.reached(90_000, &[0, 12, 13, 14, 15, 16, 17, 18]);
+    shipped.reached(140_000, &[0, 12, 13, 14, 15, 16, 17, 18]);
 }

@@ -1,11 +1,12 @@
-//! The library's note, write and restart beside the model, answer by answer and byte by byte.
+//! The library's note, write, restart and compaction beside the model, answer by answer and byte by byte.
 
 mod stripe_scenes;
 
 use gilboreth_host::beside::{finds_out, Beside};
-use gilboreth_host::calls::{Calls, LIBRARY};
-use gilboreth_host::model::stripe::run_at;
-use stripe_scenes::{cuts, damage, edges, limits, pieces, restarts};
+use gilboreth_host::calls::{Calls, Compact, LIBRARY};
+use gilboreth_host::model::runs::map_of;
+use gilboreth_host::model::stripe::{decode_log, encode_log, run_at, LOG_BYTES, MAP_BYTES};
+use stripe_scenes::{compactions, cuts, damage, edges, limits, pieces, restarts};
 
 #[test]
 fn small_pieces() {
@@ -29,10 +30,17 @@ fn cuts() {
 }
 
 #[test]
+fn cuts_and_compactions() {
+    let mut library = Beside::new(LIBRARY);
+    cuts::compacted(&mut library, 0..600, false);
+    library.reached(57_000, &[0, 18]);
+}
+
+#[test]
 fn cuts_at_the_limit_of_runs() {
     let mut library = Beside::new(LIBRARY);
     cuts::at_the_limit_of_runs(&mut library, 0..1);
-    library.reached(1_000, &[0, 16, 18]);
+    library.reached(2_000, &[0, 16, 18]);
 }
 
 #[test]
@@ -40,6 +48,13 @@ fn cuts_at_the_limit_of_entries() {
     let mut library = Beside::new(LIBRARY);
     cuts::at_the_limit_of_entries(&mut library, 0..1);
     library.reached(2_000, &[0, 17]);
+}
+
+#[test]
+fn cuts_past_the_limit_of_entries() {
+    let mut library = Beside::new(LIBRARY);
+    cuts::past_the_limit_of_entries(&mut library, 0..1);
+    library.reached(2_200, &[0]);
 }
 
 #[test]
@@ -57,31 +72,52 @@ fn drawn_notes_at_the_limits() {
 }
 
 #[test]
-fn restarts_at_the_limits() {
+fn logs_at_the_limits() {
     let mut library = Beside::new(LIBRARY);
     limits::restarts(&mut library, 0..4);
-    library.reached(48, &[0, 16]);
+    library.reached(144, &[0, 16]);
 }
 
 #[test]
-fn restarts_of_full_logs() {
+fn full_logs() {
     let mut library = Beside::new(LIBRARY);
     limits::full_logs(&mut library, 0..6);
-    library.reached(48, &[0, 16]);
+    library.reached(170, &[0, 16]);
 }
 
 #[test]
-fn restarts_of_every_kind() {
+fn logs_of_every_kind() {
     let mut library = Beside::new(LIBRARY);
     restarts::of_every_kind(&mut library);
-    library.reached(140, &[0]);
+    library.reached(560, &[0]);
 }
 
 #[test]
-fn restarts_of_crowded_logs() {
+fn crowded_logs() {
     let mut library = Beside::new(LIBRARY);
     restarts::crowded(&mut library, 0..2_000);
-    library.reached(2_000, &[0]);
+    library.reached(8_000, &[0]);
+}
+
+#[test]
+fn compactions_over_any_content() {
+    let mut library = Beside::new(LIBRARY);
+    compactions::over_any_content(&mut library, 0..60);
+    library.reached(360, &[0, 16]);
+}
+
+#[test]
+fn compactions_at_the_limit_of_runs() {
+    let mut library = Beside::new(LIBRARY);
+    compactions::at_the_limit_of_runs(&mut library);
+    library.reached(24, &[0, 16]);
+}
+
+#[test]
+fn notes_after_compactions() {
+    let mut library = Beside::new(LIBRARY);
+    compactions::notes_after(&mut library);
+    library.reached(3_077, &[0, 17]);
 }
 
 #[test]
@@ -102,42 +138,42 @@ fn numbers_of_writes() {
 fn fields() {
     let mut library = Beside::new(LIBRARY);
     edges::fields(&mut library);
-    library.reached(1_280, &[0, 12, 13]);
+    library.reached(1_536, &[0, 12, 13]);
 }
 
 #[test]
 fn counts() {
     let mut library = Beside::new(LIBRARY);
     edges::counts(&mut library);
-    library.reached(120, &[0, 12, 13, 16, 17, 18]);
+    library.reached(144, &[0, 12, 13, 16, 17, 18]);
 }
 
 #[test]
 fn lengths() {
     let mut library = Beside::new(LIBRARY);
     edges::lengths(&mut library);
-    library.reached(960, &[0, 12, 13, 14, 18]);
+    library.reached(1_152, &[0, 12, 13, 14, 18]);
 }
 
 #[test]
 fn flipped_bits() {
     let mut library = Beside::new(LIBRARY);
     damage::flips(&mut library, 0..500);
-    library.reached(24_000, &[0, 12, 13, 18]);
+    library.reached(32_000, &[0, 12, 13, 18]);
 }
 
 #[test]
 fn each_bit() {
     let mut library = Beside::new(LIBRARY);
     damage::each_bit(&mut library);
-    library.reached(4_800, &[0, 12, 13, 18]);
+    library.reached(6_000, &[0, 12, 13, 18]);
 }
 
 #[test]
 fn each_run() {
     let mut library = Beside::new(LIBRARY);
     damage::each_run(&mut library);
-    library.reached(6_144, &[12, 13]);
+    library.reached(8_192, &[12, 13]);
 }
 
 #[test]
@@ -241,4 +277,110 @@ fn wrong_versions() {
     assert!(finds_out(restart, restarts::of_every_kind), "an empty map");
     assert!(finds_out(refused, limits::notes), "16 at 1,024 runs");
     assert!(!finds_out(LIBRARY, |right| pieces::small(right, 0..20)));
+}
+
+/// Compactions that leave something else, or answer other than the rules say: a scene finds each of them
+/// out.
+#[test]
+fn wrong_compactions() {
+    type Scene = fn(&mut Beside);
+    let any_content: Scene = |wrong| compactions::over_any_content(wrong, 0..20);
+    let limit: Scene = compactions::at_the_limit_of_runs;
+    let wrong: [(&str, Scene, Compact); 13] = [
+        ("it does nothing", any_content, |_, _| 0),
+        ("it refuses every log", any_content, |_, _| 13),
+        ("it copies the old log", any_content, |old_log, new_log| {
+            changed(old_log, new_log, |new_log| new_log.copy_from_slice(old_log))
+        }),
+        ("it forgets the last run", any_content, |old_log, new_log| {
+            changed(old_log, new_log, |new_log| {
+                let mut runs = decode_log(new_log).unwrap();
+                runs.pop();
+                new_log.copy_from_slice(&encode_log(&runs));
+            })
+        }),
+        ("its runs fall", any_content, |old_log, new_log| {
+            changed(old_log, new_log, |new_log| {
+                let mut runs = decode_log(new_log).unwrap();
+                runs.reverse();
+                new_log.copy_from_slice(&encode_log(&runs));
+            })
+        }),
+        ("it takes a byte by arrival", any_content, |old_log, new_log| {
+            changed(old_log, new_log, |new_log| {
+                let mut entries = decode_log(old_log).unwrap();
+                (1..).zip(&mut entries).for_each(|(place, entry)| entry.number = place);
+                (LIBRARY.compact)(&encode_log(&entries), new_log);
+            })
+        }),
+        ("it leaves what stood after the entries", any_content, |old_log, new_log| {
+            let content = new_log.to_vec();
+            changed(old_log, new_log, |new_log| {
+                let end = run_at(decode_log(new_log).unwrap().len());
+                new_log[end..].copy_from_slice(&content[end..]);
+            })
+        }),
+        ("its zeros end where a map would", any_content, |old_log, new_log| {
+            let content = new_log.to_vec();
+            changed(old_log, new_log, |new_log| {
+                new_log[MAP_BYTES..].copy_from_slice(&content[MAP_BYTES..]);
+            })
+        }),
+        ("it judges what stood in the second buffer", any_content, |old_log, new_log| {
+            match decode_log(new_log) {
+                None => 13,
+                Some(_) => (LIBRARY.compact)(old_log, new_log),
+            }
+        }),
+        ("it judges 16 after a store", limit, |old_log, new_log| {
+            let answer = (LIBRARY.compact)(old_log, new_log);
+            if answer == 16 {
+                new_log[..4].fill(0);
+            }
+            answer
+        }),
+        ("it refuses 1,024 runs", limit, |old_log, new_log| {
+            let content = new_log.to_vec();
+            let answer = (LIBRARY.compact)(old_log, new_log);
+            if new_log[..4] == 1_024_u32.to_be_bytes() {
+                new_log.copy_from_slice(&content);
+                return 16;
+            }
+            answer
+        }),
+        ("it takes as many runs as a log has room for", limit, |old_log, new_log| {
+            let answer = (LIBRARY.compact)(old_log, new_log);
+            if answer == 16 {
+                new_log.copy_from_slice(&encode_log(&map_of(&decode_log(old_log).unwrap())));
+                return 0;
+            }
+            answer
+        }),
+        ("it takes a longer second buffer", edges::lengths, |old_log, new_log| {
+            let length = new_log.len().min(LOG_BYTES);
+            (LIBRARY.compact)(old_log, &mut new_log[..length])
+        }),
+    ];
+    for (name, scene, compact) in wrong {
+        assert!(finds_out(Calls { compact, ..LIBRARY }, scene), "{name}");
+    }
+    for scene in [any_content, limit, edges::lengths] {
+        assert!(!finds_out(LIBRARY, scene));
+    }
+}
+
+/// The library's compaction, and what is then made of an accepted one.
+fn changed(old_log: &[u8], new_log: &mut [u8], change: impl FnOnce(&mut [u8])) -> u64 {
+    let answer = (LIBRARY.compact)(old_log, new_log);
+    if answer == 0 {
+        change(new_log);
+    }
+    answer
+}
+
+/// A daemon that takes a note between a compaction and the turn loses it.
+#[test]
+fn a_note_before_the_turn() {
+    assert!(finds_out(LIBRARY, |heedless| cuts::compacted(heedless, 0..20, true)));
+    assert!(!finds_out(LIBRARY, |right| cuts::compacted(right, 0..20, false)));
 }

@@ -1,4 +1,5 @@
-//! Runs of one stripe: pieces noted and written in any order, again and again, with cuts.
+//! Runs of one stripe: pieces noted and written in any order, again and again, with cuts, and with
+//! compactions and turns to the new log.
 //!
 //! At the end each byte under a noted piece is that of the noted piece with the greatest number
 //! there, and every other byte is as it began.
@@ -8,6 +9,7 @@ use gilboreth_host::beside::Beside;
 use gilboreth_host::model::runs::{Run, ENTRIES, RUNS};
 use gilboreth_host::model::stripe::{self, decode_log, decode_map, run_at, LOG_BYTES, MAP_BYTES};
 use gilboreth_host::random::{for_seeds, Random};
+use std::mem::swap;
 use std::ops::{Range, RangeInclusive};
 
 /// Few numbers, so that many pieces share theirs and some are written without their own note.
@@ -19,7 +21,22 @@ pub fn crowded(beside: &mut Beside, seeds: Range<u64>) {
     });
 }
 
-/// A run near 1,024 runs, where notes are refused with 16 and restarts are not.
+/// The same with compactions. A note makes what was compacted before it stale. A heedless daemon turns to
+/// it all the same, which is wrong.
+pub fn compacted(beside: &mut Beside, seeds: Range<u64>, heedless: bool) {
+    let (runs, mut turned) = (seeds.end - seeds.start, 0);
+    for_seeds(seeds, |random| {
+        let image_length = 1 + random.below(64);
+        let runs = drawn(random, 10, image_length, 24, 5);
+        let stripe = Stripe::new(beside, random, image_length);
+        let mut stripe = Stripe { compacts: true, heedless, ..stripe };
+        stripe.play(runs, 90);
+        turned += stripe.turned;
+    });
+    assert!(heedless || turned > 2 * runs, "{turned} turns");
+}
+
+/// A run near 1,024 runs, where notes are refused with 16, and restarts and compactions are not.
 pub fn at_the_limit_of_runs(beside: &mut Beside, seeds: Range<u64>) {
     for_seeds(seeds, |random| {
         let mut runs = drawn(random, 60, 2_100, 3, 6);
@@ -29,7 +46,9 @@ pub fn at_the_limit_of_runs(beside: &mut Beside, seeds: Range<u64>) {
         }
         assert_eq!(stripe.noted.len(), RUNS);
         runs.extend(&stripe.noted);
-        stripe.play(runs, 200);
+        stripe.compacts = true;
+        stripe.play(runs, 300);
+        assert!(stripe.turned > 3, "{} turns", stripe.turned);
     });
 }
 
@@ -44,6 +63,25 @@ pub fn at_the_limit_of_entries(beside: &mut Beside, seeds: Range<u64>) {
         }
         stripe.play(runs, 200);
         assert_eq!(stripe.noted.len(), ENTRIES);
+    });
+}
+
+/// A run that fills its log, compacts it whenever it is full, and so is never refused with 17.
+pub fn past_the_limit_of_entries(beside: &mut Beside, seeds: Range<u64>) {
+    for_seeds(seeds, |random| {
+        let runs = drawn(random, 20, 64, 24, 5);
+        let mut stripe = Stripe::new(beside, random, 64);
+        while stripe.noted.len() < ENTRIES + 10 {
+            if stripe.entries.len() == ENTRIES {
+                stripe.compact(false);
+                stripe.turn(false);
+            }
+            let run = stripe.random.pick(&runs);
+            stripe.note(run, false);
+        }
+        stripe.compacts = true;
+        stripe.play(runs, 200);
+        assert!(stripe.turned > 3, "{} turns", stripe.turned);
     });
 }
 
@@ -78,9 +116,18 @@ struct Stripe<'a> {
     image: Vec<u8>,
     /// The image as it began.
     began: Vec<u8>,
-    /// The entries that are noted, in note order, and the greatest number of each byte.
+    /// What is noted, in note order, and the greatest number of each byte.
     noted: Vec<Run>,
     numbers: Vec<u64>,
+    /// The entries of the log: those of its compaction, and then what was noted since.
+    entries: Vec<Run>,
+    /// The second buffer, and whether it has the new log that the stripe may turn to.
+    second: Vec<u8>,
+    compacted: bool,
+    turned: u64,
+    /// Whether compactions are among the steps, and whether a note between one and its turn is forgotten.
+    compacts: bool,
+    heedless: bool,
 }
 
 impl Stripe<'_> {
@@ -96,6 +143,12 @@ impl Stripe<'_> {
             numbers: vec![0; image.len()],
             image,
             noted: Vec::new(),
+            entries: Vec::new(),
+            second: vec![0xEE; LOG_BYTES],
+            compacted: false,
+            turned: 0,
+            compacts: false,
+            heedless: false,
         }
     }
 
@@ -105,7 +158,7 @@ impl Stripe<'_> {
         for place in places(&run) {
             raised[place] = raised[place].max(run.number);
         }
-        let expected = match (run_count(&raised) > RUNS, self.noted.len() == ENTRIES) {
+        let expected = match (runs_of(&raised).len() > RUNS, self.entries.len() == ENTRIES) {
             (true, _) => 16,
             (false, true) => 17,
             (false, false) => 0,
@@ -125,20 +178,22 @@ impl Stripe<'_> {
                 new_log[end + 8..end + 16].copy_from_slice(&last.to_be_bytes());
                 new_log[end + 16..end + 20].copy_from_slice(&(number as u32).to_be_bytes());
                 self.noted.push(run);
+                self.entries.push(run);
                 self.numbers = raised;
-                new_log[..4].copy_from_slice(&(self.noted.len() as u32).to_be_bytes());
+                new_log[..4].copy_from_slice(&(self.entries.len() as u32).to_be_bytes());
+                self.compacted &= self.heedless;
             }
             assert!(self.log == new_log);
         }
         if cut {
             self.scribble();
-            self.restart();
+            self.cut();
         }
         self.check();
     }
 
     fn end_of_entries(&self) -> usize {
-        run_at(self.noted.len())
+        run_at(self.entries.len())
     }
 
     /// After a cut note the bytes past the entries are anything.
@@ -165,7 +220,7 @@ impl Stripe<'_> {
         }
         if cut {
             self.image = new_image;
-            self.restart();
+            self.cut();
         } else {
             let answered = self.beside.write(
                 &self.map,
@@ -181,6 +236,49 @@ impl Stripe<'_> {
         self.check();
     }
 
+    /// Compacts the log. No compaction is refused. A cut leaves anything in the second buffer.
+    fn compact(&mut self, cut: bool) {
+        let runs = runs_of(&self.numbers);
+        assert_eq!(self.beside.compact(&self.log, &mut self.second), 0);
+        assert_eq!(decode_log(&self.second).unwrap(), runs);
+        assert!(self.second[run_at(runs.len())..].iter().all(|&byte| byte == 0));
+        self.compacted = true;
+        if cut {
+            self.lose();
+            self.restart();
+        }
+        self.check();
+    }
+
+    /// What stands in the second buffer is of no use any more.
+    fn lose(&mut self) {
+        let lost = self.random.below(LOG_BYTES as u64) as usize;
+        self.random.fill(&mut self.second[lost..]);
+        self.compacted = false;
+    }
+
+    /// Turns to the new log by one store, if there is one. A cut finds either log.
+    fn turn(&mut self, cut: bool) {
+        if self.compacted && !(cut && self.random.once_in(2)) {
+            swap(&mut self.log, &mut self.second);
+            self.compacted = false;
+            self.entries = runs_of(&self.numbers);
+            self.turned += 1;
+        }
+        if cut {
+            self.cut();
+        }
+        self.check();
+    }
+
+    /// A cut keeps the second buffer or loses it.
+    fn cut(&mut self) {
+        if self.compacted && self.random.once_in(2) {
+            self.lose();
+        }
+        self.restart();
+    }
+
     /// Any cut loses the map, also one in the restart itself. No restart is refused.
     fn restart(&mut self) {
         self.random.fill(&mut self.map);
@@ -192,9 +290,9 @@ impl Stripe<'_> {
         assert_eq!(self.beside.restart(&mut self.map, &self.log), 0);
     }
 
-    /// The log has the noted entries, and each byte's number is the greatest over it.
+    /// The log has its entries, and each byte's number is the greatest that was noted over it.
     fn check(&self) {
-        assert_eq!(decode_log(&self.log).unwrap(), self.noted);
+        assert_eq!(decode_log(&self.log).unwrap(), self.entries);
         let mut numbers = vec![0; self.image.len()];
         for run in decode_map(&self.map).unwrap() {
             numbers[places(&run)].fill(run.number);
@@ -208,10 +306,13 @@ impl Stripe<'_> {
         for _ in 0..steps {
             let place = self.random.below(pieces.len() as u64) as usize;
             let cut = self.random.once_in(4);
-            match self.random.below(8) {
+            let kinds = if self.compacts { 12 } else { 8 };
+            match self.random.below(kinds) {
                 0..=2 => self.note(pieces[place].run, cut),
                 3..=6 => self.write(&mut pieces[place], cut),
-                _ => self.restart(),
+                7 => self.restart(),
+                8 | 9 => self.compact(cut),
+                _ => self.turn(cut),
             }
         }
         let mut owed: Vec<&mut Piece> = pieces.iter_mut().filter(|p| self.owes(p)).collect();
@@ -237,7 +338,14 @@ impl Stripe<'_> {
 }
 
 /// The runs that these numbers need: stretches of equal numbers, without those of number 0.
-fn run_count(numbers: &[u64]) -> usize {
-    let starts = |place: &usize| *place == 0 || numbers[*place] != numbers[*place - 1];
-    (0..numbers.len()).filter(starts).filter(|place| numbers[*place] != 0).count()
+fn runs_of(numbers: &[u64]) -> Vec<Run> {
+    let mut runs: Vec<Run> = Vec::new();
+    for (place, &number) in (0..).zip(numbers) {
+        match runs.last_mut() {
+            Some(run) if run.last + 1 == place && run.number == number => run.last = place,
+            _ if number == 0 => {}
+            _ => runs.push(Run { first: place, last: place, number }),
+        }
+    }
+    runs
 }

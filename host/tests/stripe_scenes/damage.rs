@@ -3,7 +3,7 @@
 use super::{apart, drawn};
 use gilboreth_host::beside::Beside;
 use gilboreth_host::model::runs::{map_of, ENTRIES, RUNS};
-use gilboreth_host::model::stripe::{encode_log, encode_map, run_at, Piece, MAP_BYTES};
+use gilboreth_host::model::stripe::{encode_log, encode_map, run_at, Piece, LOG_BYTES, MAP_BYTES};
 use gilboreth_host::random::{for_seeds, Random};
 use std::ops::Range;
 
@@ -25,6 +25,7 @@ pub fn flips(beside: &mut Beside, seeds: Range<u64>) {
             let piece = vec![0xEE; length as usize];
             beside.write(&map, &mut [0; 40], Piece::new(first, &piece, number));
             beside.restart(&mut vec![0xEE; MAP_BYTES], &log);
+            beside.compact(&log, &mut vec![0xEE; LOG_BYTES]);
             beside.note(&mut map, &mut log, Piece::new(first, length, number), 40);
         }
     });
@@ -49,6 +50,7 @@ pub fn each_bit(beside: &mut Beside) {
         let (mut map, mut log) = (encode_map(&runs), encode_log(&entries));
         log[bit / 8] ^= 1 << (bit % 8);
         beside.restart(&mut vec![0xEE; MAP_BYTES], &log);
+        beside.compact(&log, &mut vec![0xEE; LOG_BYTES]);
         beside.note(&mut map, &mut log, Piece::new(3, 5, 3), 40);
     }
 }
@@ -71,6 +73,7 @@ pub fn each_run(beside: &mut Beside) {
     let last_byte = |place: usize| run_at(place + 1) - 1; // of the number
     let (mut map, mut log) =
         (encode_map(&apart(RUNS as u64, 1)), encode_log(&apart(ENTRIES as u64, 1)));
+    let mut new_log = vec![0xEE; LOG_BYTES];
     for number_at in (0..RUNS).map(last_byte) {
         map[number_at] = 0;
         assert_eq!(beside.note(&mut map, &mut log, Piece::new(0, 1, 1), 1), 12, "byte {number_at}");
@@ -81,6 +84,7 @@ pub fn each_run(beside: &mut Beside) {
         log[number_at] = 0;
         assert_eq!(beside.note(&mut map, &mut log, Piece::new(0, 1, 1), 1), 13, "byte {number_at}");
         assert_eq!(beside.restart(&mut map, &log), 13, "byte {number_at}");
+        assert_eq!(beside.compact(&log, &mut new_log), 13, "byte {number_at}");
         log[number_at] = 1;
     }
 }

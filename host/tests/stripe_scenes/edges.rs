@@ -67,10 +67,12 @@ pub fn counts(beside: &mut Beside) {
     }
 }
 
-/// A note, a write and a restart on this map and this log; the note with a sound one beside, too.
+/// A note, a write, a restart and a compaction on this map and this log; the note with a sound one beside,
+/// too.
 fn judged(beside: &mut Beside, map: &[u8], log: &[u8]) {
     beside.write(map, &mut [0; 40], Piece::new(10, b"piece", 5));
     beside.restart(&mut vec![0xEE; MAP_BYTES], log);
+    beside.compact(log, &mut vec![0xEE; LOG_BYTES]);
     beside.note(&mut map.to_vec(), &mut log.to_vec(), Piece::new(10, 5, 6), 40);
     beside.note(&mut map.to_vec(), &mut encode_log(&[]), Piece::new(10, 5, 6), 40);
     beside.note(&mut encode_map(&[]), &mut log.to_vec(), Piece::new(10, 5, 6), 40);
@@ -90,6 +92,11 @@ pub fn lengths(beside: &mut Beside) {
             beside.note(&mut map.clone(), &mut log.clone(), Piece::new(3, 0, 0), 10);
             beside.note(&mut map, &mut log, Piece::new(3, 5, 3), 10);
             beside.restart(&mut map, &log);
+        }
+        for (old_length, new_length) in choices(&log_lengths, &log_lengths) {
+            let mut log = encode_log(&list);
+            log.resize(old_length, 0);
+            beside.compact(&log, &mut vec![0xEE; new_length]);
         }
     }
 }

@@ -1,9 +1,10 @@
-//! Maps near 1,024 runs, logs near 2,048 entries, and restarts whose log needs about 1,024 runs.
+//! Maps near 1,024 runs, logs near 2,048 entries, and restarts and compactions of logs that need about
+//! 1,024 runs.
 
-use super::{apart, drawn};
+use super::{apart, drawn, rebuilt};
 use gilboreth_host::beside::Beside;
 use gilboreth_host::model::runs::Run;
-use gilboreth_host::model::stripe::{encode_log, encode_map, Piece, MAP_BYTES};
+use gilboreth_host::model::stripe::{encode_log, encode_map, Piece};
 use gilboreth_host::model::HIGHEST;
 use gilboreth_host::random::{for_seeds, Random};
 use std::ops::Range;
@@ -95,8 +96,7 @@ pub fn restarts(beside: &mut Beside, seeds: Range<u64>) {
             for place in [0, random.below(1_300) as usize, 1_300] {
                 let mut entries = entries.clone();
                 entries.insert(place, over);
-                let mut map = vec![0xEE; MAP_BYTES];
-                let answered = beside.restart(&mut map, &encode_log(&entries));
+                let answered = rebuilt(beside, &entries);
                 assert_eq!(answered, if needed > 1_024 { 16 } else { 0 }, "{needed} runs");
             }
         }
@@ -120,7 +120,7 @@ pub fn full_logs(beside: &mut Beside, seeds: Range<u64>) {
             drawn(random, count, 1 << 40, 1 << 40, HIGHEST),
         ];
         for entries in logs {
-            beside.restart(&mut vec![0xEE; MAP_BYTES], &encode_log(&entries));
+            rebuilt(beside, &entries);
         }
     });
 }

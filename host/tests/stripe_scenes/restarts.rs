@@ -1,10 +1,10 @@
-//! Restarts of logs of every kind, and of entries with the same first bytes, last bytes and numbers.
+//! Restarts and compactions of logs of every kind, and of entries with the same first bytes, last bytes
+//! and numbers.
 
-use super::drawn;
+use super::{drawn, rebuilt};
 use gilboreth_host::beside::Beside;
 use gilboreth_host::logs::kinds;
 use gilboreth_host::model::runs::Run;
-use gilboreth_host::model::stripe::{encode_log, MAP_BYTES};
 use gilboreth_host::model::EOF;
 use gilboreth_host::random::for_seeds;
 use std::ops::Range;
@@ -13,9 +13,7 @@ use std::ops::Range;
 pub fn of_every_kind(beside: &mut Beside) {
     for count in [1, 2, 3, 5, 17, 100, 2_048] {
         for (name, entries) in kinds(count) {
-            let mut map = vec![0xEE; MAP_BYTES];
-            let answered = beside.restart(&mut map, &encode_log(&entries));
-            assert_eq!(answered, 0, "{count} entries, {name}");
+            assert_eq!(rebuilt(beside, &entries), 0, "{count} entries, {name}");
         }
     }
 }
@@ -39,6 +37,6 @@ pub fn crowded(beside: &mut Beside, seeds: Range<u64>) {
             2 => entries.sort_by_key(|entry| entry.number),
             _ => {}
         }
-        beside.restart(&mut vec![0xEE; MAP_BYTES], &encode_log(&entries));
+        rebuilt(beside, &entries);
     });
 }
