@@ -6,7 +6,7 @@ mod piped;
 mod runs;
 mod transcript;
 
-use both::{note, restart, write};
+use both::{compact, note, restart, write};
 use gilboreth_host::model::locks::{EVENTS_BYTES, TABLE_BYTES};
 use gilboreth_host::model::stripe::{Piece, LOG_BYTES, MAP_BYTES};
 use gilboreth_host::{EventBuffer, Log, Map, Table};
@@ -158,6 +158,17 @@ fn p8() {
 fn p8_log() {
     let (_, log) = noted([A, B, C]);
     assert!(log == runs(40_964, &[(0, 5, 2), (4, 7, 1), (5, 7, 3)]));
+}
+
+/// Compacted, it has the map's runs.
+#[test]
+fn p8_compacted() {
+    for order in ORDERS {
+        let (_, log) = noted(order);
+        let mut new_log = vec![0xEE; LOG_BYTES];
+        assert_eq!(compact(&log, &mut new_log), 0);
+        assert!(new_log == runs(40_964, &[(0, 4, 2), (5, 7, 3)]));
+    }
 }
 
 #[test]

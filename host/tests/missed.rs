@@ -7,7 +7,7 @@ mod piped;
 mod runs;
 mod transcript;
 
-use both::{note, restart, write};
+use both::{compact, note, restart, write};
 use gilboreth_host::model::locks::encode;
 use gilboreth_host::model::modes::{Mode, State};
 use gilboreth_host::model::stripe::{run_at, Piece, LOG_BYTES, MAP_BYTES};
@@ -402,4 +402,80 @@ fn restart_judges_the_whole_log() {
     entries.push((0, 4_096, 2));
     assert_eq!(restart(&mut map, &runs(LOG_BYTES, &entries)), 0);
     assert!(map == runs(MAP_BYTES, &[(0, 4_096, 2)]));
+}
+
+/// The entries of a compacted log are the runs of its map, rising: a covered entry goes, a cut one is in
+/// parts, touching ones of one number are one. Zeros stand after them up to the log's end.
+#[test]
+fn compaction_leaves_the_runs_of_the_map() {
+    let mut old_log =
+        runs(LOG_BYTES, &[(20, 29, 4), (0, 9, 2), (3, 4, 3), (24, 25, 1), (10, 12, 2), (3, 4, 2)]);
+    old_log[run_at(6)..].fill(0xEE);
+    let mut new_log = vec![0xEE; LOG_BYTES];
+    assert_eq!(compact(&old_log, &mut new_log), 0);
+    let expected = runs(LOG_BYTES, &[(0, 2, 2), (3, 4, 3), (5, 12, 2), (20, 29, 4)]);
+    assert!(new_log == expected);
+    old_log.fill(0xEE);
+    assert_eq!(compact(&new_log, &mut old_log), 0);
+    assert!(old_log == expected);
+}
+
+/// An empty log, and one over all bytes.
+#[test]
+fn compaction_at_the_ends() {
+    const EOF: u64 = 9_223_372_036_854_775_807;
+    let mut new_log = vec![0xEE; LOG_BYTES];
+    assert_eq!(compact(&[0; LOG_BYTES], &mut new_log), 0);
+    assert!(new_log == vec![0; LOG_BYTES]);
+    let ends = [(0, EOF, 1), (EOF, EOF, 4_294_967_295), (0, 0, 2)];
+    assert_eq!(compact(&runs(LOG_BYTES, &ends), &mut new_log), 0);
+    let expected = [(0, 0, 2), (1, EOF - 1, 1), (EOF, EOF, 4_294_967_295)];
+    assert!(new_log == runs(LOG_BYTES, &expected));
+}
+
+/// 2,048 entries of one run need one entry; then a note is accepted that was refused with 17.
+#[test]
+fn a_full_log_has_room_again() {
+    let (mut map, log) = (runs(MAP_BYTES, &[(0, 0, 1)]), runs(LOG_BYTES, &vec![(0, 0, 1); 2_048]));
+    assert_eq!(note(&mut map, &mut log.clone(), Piece::new(1, 1, 2), 9), 17);
+    let mut new_log = vec![0xEE; LOG_BYTES];
+    assert_eq!(compact(&log, &mut new_log), 0);
+    assert_eq!(note(&mut map, &mut new_log, Piece::new(1, 1, 2), 9), 0);
+    assert!(new_log == runs(LOG_BYTES, &[(0, 0, 1), (1, 1, 2)]));
+    assert!(map == runs(MAP_BYTES, &[(0, 0, 1), (1, 1, 2)]));
+}
+
+/// Compaction judges the whole log, as a restart does, and nothing is stored before 16.
+#[test]
+fn compaction_judges_the_whole_log() {
+    let mut entries: Vec<_> = (0..1_025).map(|place| (2 * place, 2 * place, 1)).collect();
+    let mut new_log = vec![0xEE; LOG_BYTES];
+    assert_eq!(compact(&runs(LOG_BYTES, &entries), &mut new_log), 16);
+    assert!(new_log == vec![0xEE; LOG_BYTES]);
+    entries.push((0, 4_096, 2));
+    assert_eq!(compact(&runs(LOG_BYTES, &entries), &mut new_log), 0);
+    assert!(new_log == runs(LOG_BYTES, &[(0, 4_096, 2)]));
+}
+
+/// Why no note may come between the call and the turn: its entry stands in the old log alone. After the
+/// turn and a restart the later piece has lost its place to the older one.
+#[test]
+fn a_note_between_compaction_and_turn_is_lost() {
+    let (mut map, mut log) = empty();
+    let mut image = *b"......";
+    assert_eq!(note(&mut map, &mut log, Piece::new(0, 6, 1), 6), 0);
+    let mut new_log = vec![0xEE; LOG_BYTES];
+    assert_eq!(compact(&log, &mut new_log), 0);
+    assert_eq!(note(&mut map, &mut log, Piece::new(2, 2, 2), 6), 0);
+    assert_eq!(write(&map, &mut image, Piece::new(2, b"LL", 2)), 0);
+    assert_eq!(&image, b"..LL..");
+    // The turn to the stale log, and a cut.
+    assert_eq!(restart(&mut map, &new_log), 0);
+    assert!(map == runs(MAP_BYTES, &[(0, 5, 1)]));
+    assert_eq!(write(&map, &mut image, Piece::new(0, b"OOOOOO", 1)), 0);
+    assert_eq!(&image, b"OOOOOO");
+    // Compacted again before the turn, it is kept.
+    assert_eq!(compact(&log, &mut new_log), 0);
+    assert_eq!(restart(&mut map, &new_log), 0);
+    assert!(map == runs(MAP_BYTES, &[(0, 1, 1), (2, 3, 2), (4, 5, 1)]));
 }

@@ -214,3 +214,28 @@ fn restart() {
     answers(16, MAP, &apart(LOG, 1_025));
     answers(0, MAP, &apart(LOG, 1_024));
 }
+
+/// Either length and the old log's soundness are 13, before 16. The second buffer may hold anything.
+#[test]
+fn compact() {
+    let answers = |refusal: u64, old_log: &[u8], length: usize| {
+        let mut new_log = vec![0xEE; length];
+        assert_eq!(both::compact(old_log, &mut new_log), refusal);
+        assert_eq!(new_log == vec![0xEE; length], refusal != 0);
+    };
+    let unsound = runs(LOG, &[(0, 0, 1), (0, 0, 0)]);
+    for length in [0, LOG - 1, LOG + 1, MAP] {
+        answers(13, &damaged(apart(LOG, 1_025)), length);
+        answers(13, &apart(LOG, 1_025), length);
+        answers(13, &apart(LOG, 1_024), length);
+        answers(13, &unsound, length);
+    }
+    answers(13, &[], LOG);
+    answers(13, &damaged(apart(LOG, 1_025)), LOG);
+    answers(13, &apart(LOG, 1_025)[..LOG - 1], LOG);
+    answers(13, &unsound, LOG);
+    answers(16, &apart(LOG, 1_025), LOG);
+    answers(16, &apart(LOG, 2_048), LOG);
+    answers(0, &apart(LOG, 1_024), LOG);
+    answers(0, &apart(LOG, 0), LOG);
+}

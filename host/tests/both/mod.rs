@@ -21,3 +21,7 @@ pub fn write(map: &[u8], image: &mut [u8], piece: Piece<&[u8]>) -> u64 {
 pub fn restart(map: &mut [u8], log: &[u8]) -> u64 {
     Beside::new(LIBRARY).restart(map, log)
 }
+
+pub fn compact(old_log: &[u8], new_log: &mut [u8]) -> u64 {
+    Beside::new(LIBRARY).compact(old_log, new_log)
+}
