@@ -1,26 +1,53 @@
 //! The seam of both halves: a byte under two write grants of a stripe is at the end the later
-//! grant's, in whatever order the flushes arrive, with cuts and restarts anywhere.
+//! grant's, in whatever order the flushes arrive, with cuts, restarts and compactions anywhere.
 
 use gilboreth_host::random::{for_seeds, Random};
 use gilboreth_host::{
     Answer, Event, EventBuffer, Handle, Item, Kind, ListEventBuffer, Log, Map, Mode, Number, Piece,
     Record, Refusal, Table,
 };
+use std::ops::Range;
+use std::panic::catch_unwind;
 
 /// A stripe of a server: its map in memory, its log and image on disk.
 struct Stripe {
     map: Map,
     log: Log,
     image: Vec<u8>,
+    /// What the log was compacted to, with no note since: the log that the server may turn to.
+    new_log: Option<Log>,
+    turned: usize,
+    /// A wrong server keeps it after a note, too.
+    heedless: bool,
 }
 
 impl Stripe {
     fn new(image: &[u8]) -> Stripe {
-        Stripe { map: Map::new(), log: Log::new(), image: image.to_vec() }
+        let (map, log, image) = (Map::new(), Log::new(), image.to_vec());
+        Stripe { map, log, image, new_log: None, turned: 0, heedless: false }
     }
 
     fn note(&mut self, piece: Piece<&[u8]>) -> Result<(), Refusal> {
-        self.map.note(&mut self.log, piece.outline(), self.image.len() as u64)
+        let noted = self.map.note(&mut self.log, piece.outline(), self.image.len() as u64);
+        if noted.is_ok() && !self.heedless {
+            self.new_log = None;
+        }
+        noted
+    }
+
+    /// No compaction is refused.
+    fn compact(&mut self) {
+        let mut new_log = Log::from([0xEE; Log::BYTES]);
+        self.log.compact(&mut new_log).unwrap();
+        self.new_log = Some(new_log);
+    }
+
+    /// Turns to the new log by one store, if there is one.
+    fn turn(&mut self) {
+        if let Some(new_log) = self.new_log.take() {
+            self.log = new_log;
+            self.turned += 1;
+        }
     }
 
     fn write(&mut self, piece: Piece<&[u8]>) -> Result<(), Refusal> {
@@ -136,6 +163,29 @@ fn the_old_flush_arrives_between_a_cut_and_the_resend() {
     assert_eq!(stripe.image, b"OOOOLLLLOO");
 }
 
+/// The log with the later grant's entry is compacted, and a cut finds the old log or the new one.
+#[test]
+fn the_old_flush_arrives_last_after_a_compaction() {
+    for turned in [false, true] {
+        let (old, later) = flushes();
+        let mut stripe = Stripe::new(b"..........");
+        stripe.flush(later);
+        stripe.compact();
+        if turned {
+            stripe.turn();
+        }
+        stripe.cut();
+        stripe.note(old).unwrap();
+        stripe.compact();
+        stripe.write(old).unwrap();
+        stripe.turn();
+        stripe.cut();
+        assert_eq!(stripe.log.entries().len(), 3);
+        stripe.write(old).unwrap();
+        assert_eq!(stripe.image, b"OOOOLLLLOO");
+    }
+}
+
 const IMAGE: u64 = 48;
 
 /// The write grants of stripe 0 over a session of messages and lists, in the order in which they came.
@@ -214,22 +264,40 @@ fn pieces(random: &mut Random, grants: &[Record]) -> Vec<Flush> {
     pieces
 }
 
-/// Flushes at random, many of them cut. Then the flushes come to their end from the latest grant to
-/// the oldest, each after a cut or not: the older a flush, the later it arrives.
 #[test]
 fn flushes_in_any_order() {
-    let mut contested = 0;
-    for_seeds(0..1_300, |random| {
+    let (contested, turned) = play(0..1_300, false);
+    assert!(contested > 10_000, "{contested} bytes under pieces of two grants");
+    assert!(turned > 2_000, "{turned} turns to a new log");
+}
+
+/// A server that turns to a log that was compacted before a note: bytes of the noted piece are lost.
+#[test]
+fn a_note_between_a_compaction_and_its_turn() {
+    assert!(catch_unwind(|| play(0..50, true)).is_err());
+    play(0..50, false);
+}
+
+/// Flushes at random, many of them cut, and compactions. Then the flushes come to their end from the
+/// latest grant to the oldest, each after a cut or not: the older a flush, the later it arrives.
+/// Answers how many bytes had pieces of two grants, and how often the server turned to a new log.
+fn play(seeds: Range<u64>, heedless: bool) -> (usize, usize) {
+    let (mut contested, mut turned) = (0, 0);
+    for_seeds(seeds, |random| {
         let grants = grants(random);
         let mut pieces = pieces(random, &grants);
         let mut began = vec![0; IMAGE as usize];
         random.fill(&mut began);
-        let mut stripe = Stripe::new(&began);
-        for _ in 0..pieces.len() * 2 {
+        let mut stripe = Stripe { heedless, ..Stripe::new(&began) };
+        for _ in 0..pieces.len() * 3 {
             let place = random.below(pieces.len() as u64) as usize;
             step(&mut stripe, random, &mut pieces[place]);
         }
         for piece in pieces.iter_mut().rev() {
+            if random.once_in(4) {
+                stripe.compact();
+                stripe.turn();
+            }
             if random.once_in(2) {
                 stripe.cut();
             }
@@ -251,13 +319,15 @@ fn flushes_in_any_order() {
             let expected = later.map_or(began[place as usize], |grant| byte(grant, place));
             assert_eq!(stripe.image[place as usize], expected, "byte {place}");
         }
+        turned += stripe.turned;
     });
-    assert!(contested > 10_000, "{contested} bytes under pieces of two grants");
+    (contested, turned)
 }
 
-/// One note or write of a piece, cut or whole.
+/// One note or write of a piece, cut or whole; or a compaction, or the turn to its log, which a cut finds
+/// done or not. A cut keeps the new log that the server has not turned to, or loses it.
 fn step(stripe: &mut Stripe, random: &mut Random, flush: &mut Flush) {
-    match random.below(8) {
+    match random.below(12) {
         0 => stripe.cut_note_and_old_log(),
         1 => {
             stripe.cut_note_and_new_log(flush.piece());
@@ -268,7 +338,18 @@ fn step(stripe: &mut Stripe, random: &mut Random, flush: &mut Flush) {
             flush.noted = true;
         }
         4 => stripe.cut_write(flush.piece(), || random.draw() as u8),
-        5 => stripe.cut(),
+        5 => {
+            stripe.new_log = stripe.new_log.take().filter(|_| random.once_in(2));
+            stripe.cut();
+        }
+        6 | 7 => stripe.compact(),
+        8 => stripe.turn(),
+        9 => {
+            if random.once_in(2) {
+                stripe.turn();
+            }
+            stripe.cut();
+        }
         _ => {
             let written = stripe.write(flush.piece());
             assert!(written.is_ok() || (!flush.noted && written == Err(Refusal::Smaller)));
