@@ -175,7 +175,7 @@ fn stripes() {
         for _ in 0..60 {
             let (first, length) = (random.below(40), random.below(12));
             let (number, old) = (random.below(5), image);
-            let (answered, expected) = match random.below(9) {
+            let (answered, expected) = match random.below(10) {
                 0..=3 => (
                     map.note(&mut log, Piece { first, bytes: length, number: Number(number) }, 40),
                     stripe::note(
@@ -198,9 +198,17 @@ fn stripes() {
                     assert_eq!(image, model_image);
                     (written, expected)
                 }
-                _ => {
+                8 => {
                     random.fill(map.bytes_mut());
                     (map.restart(&log), stripe::restart(&mut model_map, &model_log))
+                }
+                _ => {
+                    let (mut new, mut model_new) =
+                        (Log::from([0xEE; LOG_BYTES]), vec![0; LOG_BYTES]);
+                    let answered = log.compact(&mut new);
+                    let expected = stripe::compact(&model_log, &mut model_new);
+                    (log, model_log) = (new, model_new);
+                    (answered, expected)
                 }
             };
             assert_eq!(answered.err().map_or(0, Refusal::number), expected);
@@ -210,6 +218,8 @@ fn stripes() {
             let runs = decode_map(&model_map).unwrap();
             assert!(map.runs().eq(runs.iter().map(run)));
             assert!(log.entries().eq(decode_log(&model_log).unwrap().iter().map(run)));
+            assert_eq!(log.notes_that_fit(), 2_048 - log.entries().len());
+            assert_eq!(map.pieces_that_fit(), 512 - runs.len());
             for byte in 0..45 {
                 let over = runs.iter().find(|run| run.first <= byte && byte <= run.last);
                 assert_eq!(map.number_at(byte).0, over.map_or(0, |run| run.number));
@@ -232,6 +242,7 @@ fn bytes_that_are_not_sound() {
         assert!(decode(table.bytes()).is_none());
         assert!(table.records().count() <= 256);
         assert_eq!((map.runs().len(), log.entries().len()), (1_024, 2_048));
+        assert_eq!((map.pieces_that_fit(), log.notes_that_fit()), (0, 0));
         assert!(!format!("{table:?} {map:?} {log:?}").is_empty());
 
         let (old_table, old_map, old_log) = (table.clone(), map.clone(), log.clone());
@@ -247,6 +258,10 @@ fn bytes_that_are_not_sound() {
         assert_eq!(Map::new().note(&mut log, PIECE.outline(), 1), Err(Refusal::Log));
         assert_eq!(map.write(&mut [0], PIECE), Err(Refusal::Map));
         assert_eq!(map.restart(&log), Err(Refusal::Log));
+        let mut new = Log::new();
+        assert_eq!(log.compact(&mut new), Err(Refusal::Log));
+        assert!(new == Log::new());
+        assert_eq!(new.compact(&mut log.clone()), Ok(()));
         assert!(table == old_table && map == old_map && log == old_log);
     }
 }
