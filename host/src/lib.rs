@@ -34,6 +34,8 @@
 //! # Ok::<(), gilboreth_host::Refusal>(())
 //! ```
 //!
+//! A log that fills up is compacted into a second one, to which the host turns: [`Log::compact`].
+//!
 //! Each call is one call of the proved library, on buffers of fixed length that are lent to it. A
 //! call that is refused answers a [`Refusal`] and changes nothing. What the library promises, for
 //! every input, is in docs/READING.md.

@@ -44,7 +44,7 @@ pub enum Refusal {
     State = 11,
     /// The map is of another length, or not sound.
     Map = 12,
-    /// The log is of another length, or not sound.
+    /// The log is of another length, or not sound; of a compaction also the second buffer of another length.
     Log = 13,
     /// The piece is of length 0, past the image or past EOF.
     Piece = 14,

@@ -27,7 +27,7 @@ pub const OTHER_CLIENT: Refusal = 10;
 pub const STATE: Refusal = 11;
 /// The map is of another length, or not sound.
 pub const MAP: Refusal = 12;
-/// The log is of another length, or not sound.
+/// The log is of another length, or not sound; of a compaction also the second buffer of another length.
 pub const LOG: Refusal = 13;
 /// The piece is of length 0, past the image or past EOF.
 pub const PIECE: Refusal = 14;
