@@ -10,7 +10,7 @@ use gilboreth_host::model::list::LIST_EVENTS_BYTES;
 use gilboreth_host::model::locks::{encode, EVENTS_BYTES};
 use gilboreth_host::model::modes::{Mode, State};
 use gilboreth_host::model::runs::{Run, ENTRIES};
-use gilboreth_host::model::stripe::{encode_log, encode_map, Piece, MAP_BYTES};
+use gilboreth_host::model::stripe::{encode_log, encode_map, Piece, LOG_BYTES, MAP_BYTES};
 use gilboreth_host::model::table::{Record, Table};
 use gilboreth_host::model::EOF;
 use std::cell::RefCell;
@@ -37,6 +37,7 @@ fn measure() {
     notes();
     writes();
     restarts();
+    compactions();
     requests();
     acknowledge();
     println!();
@@ -106,6 +107,18 @@ fn restarts() {
             name: format!("restart, {name}"),
             buffers: [vec![0; MAP_BYTES], encode_log(&entries)],
             call: &|calls, map, log| (calls.restart)(map, log),
+        }
+        .row_within(Duration::from_micros(500));
+    }
+}
+
+/// The same logs, into a buffer that held anything.
+fn compactions() {
+    for (name, entries) in kinds(ENTRIES as u64) {
+        Case {
+            name: format!("compact, {name}"),
+            buffers: [encode_log(&entries), vec![0xEE; LOG_BYTES]],
+            call: &|calls, old_log, new_log| (calls.compact)(old_log, new_log),
         }
         .row_within(Duration::from_micros(500));
     }

@@ -1,14 +1,15 @@
-//! Looks for logs that cost a restart much. Each begins as a shape that is drawn, and is changed part
-//! by part as long as it costs more. By hand: `tools/bench search SECONDS`.
+//! Looks for logs that cost a restart much, and tells what their compaction costs. Each begins as a shape
+//! that is drawn, and is changed part by part as long as it costs more. By hand:
+//! `tools/bench search SECONDS`.
 
 use crate::case::micros;
 use gilboreth_host::calls::{Calls, LIBRARY, SHIPPED};
 use gilboreth_host::model::runs::{Run, ENTRIES};
-use gilboreth_host::model::stripe::{encode_log, MAP_BYTES};
+use gilboreth_host::model::stripe::{encode_log, LOG_BYTES, MAP_BYTES};
 use gilboreth_host::random::Random;
 use std::time::{Duration, Instant};
 
-/// What no restart may take.
+/// What no restart and no compaction may take.
 const WANTED: Duration = Duration::from_millis(1);
 /// So many changes in a row that gain nothing end a climb.
 const IDLE: usize = 60;
@@ -41,21 +42,32 @@ pub fn search(limit: Duration) {
             found = entries;
         }
     }
-    let [library, shipped] = [LIBRARY, SHIPPED].map(|side| least(side, &found, 1_001));
-    let mark = if library <= WANTED { ' ' } else { '*' };
-    let (library, shipped) = (micros(library), micros(shipped));
-    println!(
-        "{logs} logs tried; the worst takes {library:.0} µs {mark} (the Rust: {shipped:.0} µs)"
-    );
+    println!("{logs} logs tried; the worst:");
+    for (name, least) in [("restart", least as Least), ("compaction", least_compaction)] {
+        let [library, shipped] = [LIBRARY, SHIPPED].map(|side| least(side, &found, 1_001));
+        let mark = if library <= WANTED { ' ' } else { '*' };
+        let (library, shipped) = (micros(library), micros(shipped));
+        println!("{name}: {library:.0} µs {mark} (the Rust: {shipped:.0} µs)");
+    }
 }
+
+type Least = fn(Calls, &[Run], usize) -> Duration;
 
 /// The least time of so many restarts. Some logs are refused with 16, after the same work.
 fn least(side: Calls, entries: &[Run], times: usize) -> Duration {
-    let log = encode_log(entries);
-    let mut map = vec![0; MAP_BYTES];
+    let (log, mut map) = (encode_log(entries), vec![0; MAP_BYTES]);
+    least_of(times, || (side.restart)(&mut map, &log))
+}
+
+fn least_compaction(side: Calls, entries: &[Run], times: usize) -> Duration {
+    let (log, mut new_log) = (encode_log(entries), vec![0; LOG_BYTES]);
+    least_of(times, || (side.compact)(&log, &mut new_log))
+}
+
+fn least_of(times: usize, mut call: impl FnMut() -> u64) -> Duration {
     let mut once = || {
         let start = Instant::now();
-        let answered = (side.restart)(&mut map, &log);
+        let answered = call();
         let time = start.elapsed();
         assert!(answered == 0 || answered == 16, "{answered}");
         time
