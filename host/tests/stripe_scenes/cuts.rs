@@ -24,7 +24,7 @@ pub fn crowded(beside: &mut Beside, seeds: Range<u64>) {
 /// The same with compactions. A note makes what was compacted before it stale. A heedless daemon turns to
 /// it all the same, which is wrong.
 pub fn compacted(beside: &mut Beside, seeds: Range<u64>, heedless: bool) {
-    let (runs, mut turned) = (seeds.end - seeds.start, 0);
+    let (played, mut turned) = (seeds.end - seeds.start, 0);
     for_seeds(seeds, |random| {
         let image_length = 1 + random.below(64);
         let runs = drawn(random, 10, image_length, 24, 5);
@@ -33,7 +33,7 @@ pub fn compacted(beside: &mut Beside, seeds: Range<u64>, heedless: bool) {
         stripe.play(runs, 90);
         turned += stripe.turned;
     });
-    assert!(heedless || turned > 2 * runs, "{turned} turns");
+    assert!(heedless || turned > 2 * played, "{turned} turns");
 }
 
 /// A run near 1,024 runs, where notes are refused with 16, and restarts and compactions are not.
