@@ -265,6 +265,12 @@ fn refusals() {
     }
 }
 
+/// The header and the Rust library are of one version.
+#[test]
+fn versions() {
+    assert_eq!(header().0["VERSION"]["header"], format!("{:?}", env!("CARGO_PKG_VERSION")));
+}
+
 /// What the crates may write: sums and products of numbers and names, also of another crate.
 #[test]
 fn expressions() {
