@@ -1,1 +1,2 @@
+pub mod Putting
 pub mod Compacting

@@ -1,13 +1,28 @@
 // Compaction: a second log, with just the runs of a log's map.
 ghost use mathlib.Core.Path.{_≡_};
-ghost use lib.ListN.{replicate};
+ghost use lib.ListN.{length, replicate};
 ghost use Rattle.common.specs.Counters.{width};
-ghost use Rattle.runs.specs.Bytes.{mapSize};
+ghost use Rattle.runs.specs.Bytes.{mapSize, logSize};
 ghost use Rattle.compact.specs.Compact.{Compacts};
+ghost use Rattle.compact.specs.Putting.{Puts};
 
-// Compacts by way of a scratch buffer, a map's zeros: the map is drawn there, so that 16 is known before a byte is stored.
+// Makes `new` the log of the k runs that are drawn, with zeros after. Where a map has no room for them it stores nothing.
+fn put_down(new: &mut [u8], drawn: &[u8], k: usize) -> u64
+    requires { ⌜ (length (now new) ≡ logSize width) × (length (now drawn) ≡ mapSize width) ⌝ }
+    ensures { λ r. ⌜ Puts (now (drawn .entry)) k (now (new .entry)) r (now (new .exit)) ⌝ }
+{
+    if runbytes::MAX_RUNS < k {
+        return 16;
+    }
+    bytes::copy(drawn, new);
+    common::clear(new, runbytes::MAP_SIZE);
+    runbytes::put_count(new, k);
+    0
+}
+
+// Compacts by way of a scratch buffer of zeros: the map is drawn there, so that 16 is known before a lent byte is stored.
 fn by_scratch(old: &[u8], new: &mut [u8], scratch: &mut [u8]) -> u64
-    requires { ⌜ now scratch ≡ replicate (mapSize width) 0 ⌝ }
+    requires { ⌜ (length (now scratch) ≡ mapSize width) × (now scratch ≡ replicate (mapSize width) 0) ⌝ }
     ensures { λ r. ⌜ Compacts (now (old .entry)) (now (new .entry)) r (now (new .exit)) ⌝ }
 {
     if new.len() != runbytes::LOG_SIZE {
@@ -17,13 +32,7 @@ fn by_scratch(old: &[u8], new: &mut [u8], scratch: &mut [u8]) -> u64
         return 13;
     }
     let rebuilt = rebuild::rebuilt(scratch, old);
-    if runbytes::MAX_RUNS < rebuilt {
-        return 16;
-    }
-    bytes::copy(scratch, new);
-    common::clear(new, runbytes::MAP_SIZE);
-    runbytes::put_count(new, rebuilt);
-    0
+    put_down(new, scratch, rebuilt)
 }
 
 // Fills `new` with a log whose entries are the runs of the map of `old`.

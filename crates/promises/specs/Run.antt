@@ -82,7 +82,8 @@ unfoldable pub writeOk : Stripe → Map → Piece → Bool
 writeOk s lost p = false
 writeOk s (live m) p = eqb (writeAnswer m (extentOf p) (length (s .image))) 0
 
--- "with no note between the call and that store": a second log lacks what is noted after its compaction, so it is not turned to any more
+-- "with no note between the call and that store": a second log lacks what is noted after its compaction, so it is not turned to any more. (The run
+-- `compact b, note p, turn` would lose the entry of p: after a cut p is not in the map, and its write is refused with 18)
 abbrev pub outdated : Bool → Second → Second
 outdated noted none = none
 outdated noted (ready log) = cond noted none (ready log)
