@@ -8,7 +8,8 @@ use lib.Dec.{eqb}
 use lib.ListN.{length, getD, set, drop, replicate}
 use borrow.Author.Tests.{eq-eqb}
 use Rattle.xdr.specs.Be.{Bytes, be}
-use Rattle.common.specs.Tests.{zeros, cleared}
+use Rattle.common.specs.Tests.{zeros}
+use Rattle.common.specs.Cleared.{cleared}
 use Rattle.common.proofs.Bools.{and-both}
 
 -- zeros from k on

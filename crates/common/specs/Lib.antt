@@ -2,3 +2,4 @@ pub mod Tests
 pub mod Refusals
 pub mod Ranges
 pub mod Counters
+pub mod Cleared

@@ -36,12 +36,6 @@ module _ {A : Type 0} where
 abbrev pub zeros : List ℕ → Bool
 zeros = all (λ b. eqb b 0)
 
--- the bytes with zeros from a place on
-unfoldable pub cleared : ℕ → List ℕ → List ℕ
-cleared from [] = []
-cleared zero (x ∷ xs) = 0 ∷ cleared zero xs
-cleared (suc from) (x ∷ xs) = x ∷ cleared from xs
-
 -- k, k + 1, .. : n numbers
 abbrev pub upFrom : ℕ → ℕ → List ℕ
 upFrom k zero = []

@@ -4,7 +4,8 @@ ghost use Prim.Native.Nat.{_+_, _^_, _≤_, _<_, min, max};
 ghost use lib.ListN.{length, drop};
 ghost use Rattle.xdr.specs.Be.{be, putBe};
 ghost use Rattle.common.specs.Counters.{width};
-ghost use Rattle.common.specs.Tests.{zeros, cleared};
+ghost use Rattle.common.specs.Tests.{zeros};
+ghost use Rattle.common.specs.Cleared.{cleared};
 
 // The last byte that a range can have.
 pub const EOF: u64 = 9223372036854775807;

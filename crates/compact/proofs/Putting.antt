@@ -6,7 +6,7 @@ use mathlib.Core.List.{List, map, _++_}
 use lib.ListN.{length, take, drop, replicate, length-replicate, length-drop, length-map, replicate-append-replicate}
 use lib.Seq.{take-length}
 use Rattle.common.specs.Counters.{width}
-use Rattle.common.specs.Tests.{cleared}
+use Rattle.common.specs.Cleared.{cleared}
 use Rattle.common.proofs.Blank.{cleared-behind}
 use Rattle.xdr.specs.Be.{putBe}
 use Rattle.xdr.specs.Array.{putArray, putElements}

@@ -6,7 +6,7 @@ use native.Mathlib.Omega.{arith}
 use native.Mathlib.Numerals.{add-one}
 use lib.ListN.{length, set, length-set}
 use borrow.Author.Needs.{needs}
-use Rattle.common.specs.Tests.{cleared}
+use Rattle.common.specs.Cleared.{cleared}
 use Rattle.common.proofs.Blank.{clear-more, clear-none}
 use Rattle.common.proofs.clear.Statement.{statement}
 use Rattle.common.proofs.clear.Tie as tie
