@@ -41,7 +41,7 @@ bytes-same (x ∷ xs) (y ∷ ys) =
     (λ (u : x ≡ y → ⊥). inr (λ e. u (cc)))
     (same x y)
 
-piece-same : (p q : Piece) → (p ≡ q) ⊎ (p ≡ q → ⊥)
+pub piece-same : (p q : Piece) → (p ≡ q) ⊎ (p ≡ q → ⊥)
 piece-same p q =
     ⊎-elim
     (λ (u : p .first ≡ q .first). ⊎-elim

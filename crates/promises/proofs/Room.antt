@@ -1,9 +1,10 @@
 -- Room in the log and in the map. The thought: a log says what its map says, so that what was noted since a time goes on top of the map's runs of then.
-use Prim.Native.Nat.{ℕ, suc, _+_, _*_, _-_, _≤_, _<_, max}
+use Prim.Native.Nat.{ℕ, _+_, _*_, _-_, _≤_, max}
 use native.Mathlib.Omega.{arith}
 use mathlib.Core.Path.{_≡_, refl, sym, ap, subst, _∙_}
 use mathlib.Core.Bool.{Bool, true, false, not, cond}
-use mathlib.Core.List.{List, [], _∷_, _++_, map, append-assoc}
+use mathlib.Core.Logic.{_⊎_, inl, inr, ⊎-elim}
+use mathlib.Core.List.{List, [], _∷_, _++_, map, map-append, append-assoc}
 use lib.Dec.{eqb, ltb, leb}
 use lib.ListN.{length, length-append, length-map}
 use borrow.Author.Tests.{eq-eqb, le-ltb, lt-leb}
@@ -12,7 +13,7 @@ use Rattle.common.specs.Refusals.{rule, firstHit}
 use Rattle.common.proofs.Bools.{never}
 use Rattle.xdr.specs.Be.{Bytes}
 use Rattle.runs.specs.declared.Run.{Run}
-use Rattle.runs.specs.Owner.{owner}
+use Rattle.runs.specs.Owner.{over, owner}
 use Rattle.runs.specs.Map.{mapOf, raise}
 use Rattle.runs.specs.Sound.{maxRuns, maxEntries, soundMap}
 use Rattle.runs.specs.Bytes.{runsOf, logSize, soundMapBytes, soundLogBytes, logBytes}
@@ -30,9 +31,11 @@ use Rattle.note.specs.Note.{noteAnswer}
 use Rattle.restart.specs.Restart.{restartAnswer, restartMap}
 use Rattle.compact.specs.Compact.{compactAnswer, compactLog, Compacts}
 use Rattle.promises.specs.Run.{Piece, extentOf, placeOf, Map, live, Stripe, begin, Step, next, after, notes, noted, Write, writes, turns}
+use Rattle.promises.specs.Among.{Among}
 use Rattle.promises.specs.Room.{Compacted, Fits, Room}
 use Rattle.promises.proofs.Carried.{entriesOf, IsMap, Carried, carried, begin-carried}
 use Rattle.promises.proofs.Views.{View, quiet, new, wrote, turned, view}
+use Rattle.promises.proofs.Byte.{piece-same}
 use Rattle.promises.proofs.Demand3.{run-carried, said}
 
 -- An accepted compaction
@@ -137,40 +140,108 @@ not-17 false false false false false false z e = omega arith
 is-map : (mp : Map) (log map : List ℕ) → mp ≡ live map → IsMap mp log → runsOf width map ≡ mapOf (runsOf width log)
 is-map mp log map e M = subst (λ (x : Map). IsMap x log) e M .1
 
+-- Pieces that are among others say no more than these
+says-one : (q : Piece) (ps : List Piece) (b : ℕ) → Among q ps → over (placeOf q) b ≤ owner (map placeOf ps) b
+unfolding owner
+says-one q (p ∷ ps) b (inl e) = subst (λ (x : Piece). over (placeOf q) b ≤ max (over (placeOf x) b) (owner (map placeOf ps) b)) e (omega arith)
+says-one q (p ∷ ps) b (inr m) = omega (arith, says-one q ps b m)
+
+says-less : (ns ps : List Piece) (b : ℕ) → ((q : Piece) → Among q ns → Among q ps) → owner (map placeOf ns) b ≤ owner (map placeOf ps) b
+unfolding owner
+says-less [] ps b h = omega arith
+says-less (n ∷ ns) ps b h = omega (arith, says-one n ps b (h n (inl refl)), says-less ns ps b (λ q m. h q (inr m)))
+
+among? : (q : Piece) (ps : List Piece) → Among q ps ⊎ (Among q ps → ⊥)
+among? q [] = inr (λ m. m)
+among? q (p ∷ ps) =
+    ⊎-elim (λ (e : q ≡ p). inl (inl e))
+    (λ (d : q ≡ p → ⊥). ⊎-elim (λ (m : Among q ps). inl (inr m)) (λ (m : Among q ps → ⊥). inr (⊎-elim d m)) (among? q ps))
+    (piece-same q p)
+
+-- those of the pieces ps that are among ns: however often each was noted, it is there once
+record Thinned (ns ps qs : List Piece) : Type 0 where
+  few : length qs ≤ length ps
+  all : (q : Piece) → Among q ns → Among q ps → Among q qs
+  only : (q : Piece) → Among q qs → Among q ns
+
+thinned : (ns ps : List Piece) → (qs : List Piece) × Thinned ns ps qs
+thinned ns [] = ([], record { few = omega arith; all = λ q m k. k; only = λ q k. absurd k })
+thinned ns (p ∷ ps) =
+    let ih = thinned ns ps in
+    let T = ih .1 in
+    ⊎-elim
+    (λ (m : Among p ns). (
+      p ∷ ih .0,
+      record {
+        few = omega (arith, T .few);
+        all = λ q n. ⊎-elim (λ (e : q ≡ p). inl e) (λ (k : Among q ps). inr (T .all q n k));
+        only = λ q. ⊎-elim (λ (e : q ≡ p). subst (λ (x : Piece). Among x ns) (sym e) m) (T .only q);
+      },
+    ))
+    (λ (m : Among p ns → ⊥). (
+      ih .0,
+      record {
+        few = omega (arith, T .few);
+        all = λ q n. ⊎-elim (λ (e : q ≡ p). absurd (m (subst (λ (x : Piece). Among x ns) e n))) (λ (k : Among q ps). T .all q n k);
+        only = T .only;
+      },
+    ))
+    (among? p ns)
+
+-- one more, behind them
+among-snoc : (q p : Piece) (ns ps : List Piece) → ((x : Piece) → Among x ns → Among x ps) → Among p ps → Among q (ns ++ (p ∷ [])) → Among q ps
+among-snoc q p [] ps h k (inl e) = subst (λ (x : Piece). Among x ps) (sym e) k
+among-snoc q p [] ps h k (inr m) = absurd m
+among-snoc q p (n ∷ ns) ps h k (inl e) = h q (inl e)
+among-snoc q p (n ∷ ns) ps h k (inr m) = among-snoc q p ns ps (λ x y. h x (inr y)) k m
+
+-- entries and pieces noted on them, all of them among ps
+with-pieces : (es : List Run) (ns ps : List Piece) → ((q : Piece) → Among q ns → Among q ps) → length (mapOf (es ++ map placeOf ns)) ≤ 2 * (length (mapOf es) + length ps) - 1
+with-pieces es ns ps h =
+    let qs : List Piece = thinned ns ps .0 in
+    let T : Thinned ns ps qs = thinned ns ps .1 in
+    let same : (b : ℕ) → owner (es ++ map placeOf ns) b ≡ owner (es ++ map placeOf qs) b =
+    λ b. owner-append es (map placeOf ns) b
+    ∙ (let u = says-less ns qs b (λ q m. T .all q m (h q m)) in let v = says-less qs ns b (T .only) in omega arith)
+    ∙ sym (owner-append es (map placeOf qs) b) in
+    let l = ap length (map-same (es ++ map placeOf ns) (es ++ map placeOf qs) same) in
+    let r = room-after es (map placeOf qs) in
+    let k = length-map qs placeOf in
+    let f = T .few in
+    omega arith
+
 module _ (es : List Step) (s : Stripe) (C : Carried s) where
   abbrev t : Stripe
   t = after s es
 
-  abbrev ps : List Run
-  ps = map placeOf (noted s es)
+  abbrev ns : List Piece
+  ns = noted s es
 
   -- the map with one piece more is that of then with all pieces since
-  raised : (m : List ℕ) (p : Piece) → t .map ≡ live m → raise (placeOf p) (runsOf width m) ≡ mapOf (entriesOf s ++ (ps ++ (placeOf p ∷ [])))
+  raised : (m : List ℕ) (p : Piece) → t .map ≡ live m → raise (placeOf p) (runsOf width m) ≡ mapOf (entriesOf s ++ map placeOf (ns ++ (p ∷ [])))
   raised m p e =
       let r : Run = placeOf p in
       ap (λ (l : List Run). raise r l) (is-map (t .map) (t .log) m e (run-carried es s C .map))
       ∙ sym (map-snoc (entriesOf t) r)
-      ∙ map-same (entriesOf t ++ (r ∷ [])) ((entriesOf s ++ ps) ++ (r ∷ []))
-      (λ b. owner-append (entriesOf t) (r ∷ []) b ∙ ap (λ (n : ℕ). max n (owner (r ∷ []) b)) (said es s C b) ∙ sym (owner-append (entriesOf s ++ ps) (r ∷ []) b))
-      ∙ ap mapOf (append-assoc (entriesOf s) ps (r ∷ []))
+      ∙ map-same (entriesOf t ++ (r ∷ [])) ((entriesOf s ++ map placeOf ns) ++ (r ∷ []))
+      (λ b. owner-append (entriesOf t) (r ∷ []) b ∙ ap (λ (n : ℕ). max n (owner (r ∷ []) b)) (said es s C b) ∙ sym (owner-append (entriesOf s ++ map placeOf ns) (r ∷ []) b))
+      ∙ ap mapOf (append-assoc (entriesOf s) (map placeOf ns) (r ∷ []) ∙ ap (λ (l : List Run). entriesOf s ++ l) (sym (map-append placeOf ns (p ∷ []))))
 
-  few : (m : List ℕ) (p : Piece) → t .map ≡ live m → 2 * (length (mapOf (entriesOf s)) + suc (length (noted s es))) - 1 ≤ maxRuns
-      → length (raise (placeOf p) (runsOf width m)) ≤ maxRuns
-  few m p e h =
-      let b = room-after (entriesOf s) (ps ++ (placeOf p ∷ [])) in
-      let l = length-append ps (placeOf p ∷ []) in
-      let k = length-map (noted s es) placeOf in
+  few : (ps : List Piece) → 2 * (length (mapOf (entriesOf s)) + length ps) - 1 ≤ maxRuns → ((q : Piece) → Among q ns → Among q ps)
+      → (p : Piece) → Among p ps → (m : List ℕ) → t .map ≡ live m → length (raise (placeOf p) (runsOf width m)) ≤ maxRuns
+  few ps h a p k m e =
+      let b = with-pieces (entriesOf s) (ns ++ (p ∷ [])) ps (λ q. among-snoc q p ns ps a k) in
       let u = ap length (raised m p e) in
       omega arith
 
-  fits : Fits s (length (noted s es)) t
+  fits : Fits s ns t
   unfolding noteAnswer
   fits =
       record {
-        runs = λ h m p e.
+        pieces = λ ps h a p k m e.
             not-16 (not (soundMapBytes m)) (not (soundLogBytes (t .log))) (misplaced (extentOf p) (length (t .image))) (misnumbered (extentOf p)) _ (leb maxEntries (length (entriesOf t)))
-            (le-ltb maxRuns (length (raise (placeOf p) (runsOf width m))) (few m p e h));
-        entries = λ h m p e.
+            (le-ltb maxRuns (length (raise (placeOf p) (runsOf width m))) (few ps h a p k m e));
+        entries = λ h p m e.
             not-17 (not (soundMapBytes m)) (not (soundLogBytes (t .log))) (misplaced (extentOf p) (length (t .image))) (misnumbered (extentOf p)) (ltb maxRuns (length (raise (placeOf p) (runsOf width m)))) _
             (lt-leb maxEntries (length (entriesOf t)) (let l = longer es s C in omega arith));
       }

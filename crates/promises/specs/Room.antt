@@ -1,5 +1,5 @@
 -- ROOM IN THE LOG AND IN THE MAP. Document 02, #102: what a compacted log says, and how many notes and pieces surely fit.
-use Prim.Native.Nat.{ℕ, suc, _+_, _*_, _-_, _≤_, _<_, max}
+use Prim.Native.Nat.{ℕ, _+_, _*_, _-_, _≤_, _<_, max}
 use mathlib.Core.Path.{_≡_}
 use mathlib.Core.Bool.{true}
 use mathlib.Core.List.{List}
@@ -15,6 +15,7 @@ use Rattle.runs.specs.Bytes.{runsOf, runsEnd, logSize, soundLogBytes}
 use Rattle.note.specs.Note.{noteAnswer}
 use Rattle.restart.specs.Restart.{restartAnswer, restartMap}
 use Rattle.compact.specs.Compact.{Compacts}
+use Rattle.promises.specs.Among.{Among}
 use Rattle.promises.specs.Run.{Piece, extentOf, live, Stripe, EmptyLog, begin, Step, after, noted}
 
 -- An accepted compaction: "a log whose entries are exactly the runs of the old log's map, rising, zeros after". It says of every byte what the old log
@@ -30,13 +31,15 @@ pub record Compacted (old new : List ℕ) : Type 0 where
   pub room : length (runsOf width new) + 1024 ≤ maxEntries
   pub twice : (buffer : List ℕ) (answer : ℕ) (newer : List ℕ) → length buffer ≡ logSize width → Compacts new buffer answer newer → (answer ≡ 0) × (newer ≡ new)
 
--- At a time t of a run, when n pieces have been noted since the time s, with whatever steps between: n more pieces fit a map of r runs as long as
--- 2 (r + n) - 1 is at most 1,024, and n more notes fit a log of k entries, or of 1,024 if those are more
-pub record Fits (s : Stripe) (n : ℕ) (t : Stripe) : Type 0 where
-  pub runs : 2 * (length (mapOf (runsOf width (s .log))) + suc n) - 1 ≤ maxRuns
-      → (map : List ℕ) (p : Piece) → t .map ≡ live map → noteAnswer map (t .log) (extentOf p) (length (t .image)) ≡ 16 → ⊥
-  pub entries : max (length (runsOf width (s .log))) maxRuns + n < maxEntries
-      → (map : List ℕ) (p : Piece) → t .map ≡ live map → noteAnswer map (t .log) (extentOf p) (length (t .image)) ≡ 17 → ⊥
+-- From a time s of a run to a time t of it, with whatever steps between; ns is noted between. n pieces fit a map of r runs, in whatever relation, noted
+-- in any order and any number of times, as long as 2 (r + n) - 1 is at most 1,024: as long as only they are noted, none of them is refused with 16. And
+-- a log of k entries, or of 1,024 if those are more, takes notes until there are 2,048
+pub record Fits (s : Stripe) (ns : List Piece) (t : Stripe) : Type 0 where
+  pub pieces : (ps : List Piece) → 2 * (length (mapOf (runsOf width (s .log))) + length ps) - 1 ≤ maxRuns
+      → ((q : Piece) → Among q ns → Among q ps)
+      → (p : Piece) → Among p ps → (map : List ℕ) → t .map ≡ live map → noteAnswer map (t .log) (extentOf p) (length (t .image)) ≡ 16 → ⊥
+  pub entries : max (length (runsOf width (s .log))) maxRuns + length ns < maxEntries
+      → (p : Piece) (map : List ℕ) → t .map ≡ live map → noteAnswer map (t .log) (extentOf p) (length (t .image)) ≡ 17 → ⊥
 
 -- A slice of bytes holds bytes: of the old log this is said openly
 pub record Room : Type 0 where
@@ -44,4 +47,4 @@ pub record Room : Type 0 where
   -- a map of n entries: a border for each end, and past the last border there is no run
   pub borders : (es : List Run) → length (mapOf es) ≤ 2 * length es - 1
   pub fits : (log image : List ℕ) (before since : List Step) → EmptyLog log
-      → Fits (after (begin log image) before) (length (noted (after (begin log image) before) since)) (after (after (begin log image) before) since)
+      → Fits (after (begin log image) before) (noted (after (begin log image) before) since) (after (after (begin log image) before) since)
