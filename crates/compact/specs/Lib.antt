@@ -1,2 +1,2 @@
 pub mod Compact
-pub mod Putting
+pub mod Ready

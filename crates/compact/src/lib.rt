@@ -2,14 +2,14 @@
 ghost use mathlib.Core.Path.{_≡_};
 ghost use lib.ListN.{length, replicate};
 ghost use Rattle.common.specs.Counters.{width};
-ghost use Rattle.runs.specs.Bytes.{mapSize, logSize};
+ghost use Rattle.runs.specs.Bytes.{mapSize};
 ghost use Rattle.compact.specs.Compact.{Compacts};
-ghost use Rattle.compact.specs.Putting.{Puts};
+ghost use Rattle.compact.specs.Ready.{Ready};
 
-// Makes `new` the log of the k runs that are drawn, with zeros after. Where a map has no room for them it stores nothing.
-fn put_down(new: &mut [u8], drawn: &[u8], k: usize) -> u64
-    requires { ⌜ (length (now new) ≡ logSize width) × (length (now drawn) ≡ mapSize width) ⌝ }
-    ensures { λ r. ⌜ Puts (now (drawn .entry)) k (now (new .entry)) r (now (new .exit)) ⌝ }
+// Makes `new` the log of the k runs that are drawn, which are those of the map of `old`. Where a map has no room for them it stores nothing.
+fn put_down(old: &[u8], new: &mut [u8], drawn: &[u8], k: usize) -> u64
+    requires { ⌜ Ready (now old) (now new) (now drawn) k ⌝ }
+    ensures { λ r. ⌜ Compacts (now (old .entry)) (now (new .entry)) r (now (new .exit)) ⌝ }
 {
     if runbytes::MAX_RUNS < k {
         return 16;
@@ -32,7 +32,7 @@ fn by_scratch(old: &[u8], new: &mut [u8], scratch: &mut [u8]) -> u64
         return 13;
     }
     let rebuilt = rebuild::rebuilt(scratch, old);
-    put_down(new, scratch, rebuilt)
+    put_down(old, new, scratch, rebuilt)
 }
 
 // Fills `new` with a log whose entries are the runs of the map of `old`.

@@ -33,7 +33,7 @@ pub fn start() -> Pen
 
 // Stores the pending run if it fits, and counts it.
 pub fn flush(out: &mut [u8], p: Pen) -> usize
-    requires { ⌜ (mapSize width ≤ length (now out)) × Fine p ⌝ }
+    requires { ⌜ (length (now out) ≡ mapSize width) × Fine p ⌝ }
     ensures { λ k. ⌜ Flushed p (now (out .entry)) (now (out .exit)) k ⌝ }
 {
     let tip = p.tip;
@@ -58,7 +58,7 @@ pub fn flush(out: &mut [u8], p: Pen) -> usize
 
 // Draws the age a up to before q.
 pub fn push(out: &mut [u8], p: Pen, q: u64, a: Age) -> Pen
-    requires { ⌜ (mapSize width ≤ length (now out)) × Fine p × Exact a ⌝ }
+    requires { ⌜ (length (now out) ≡ mapSize width) × Fine p × Exact a ⌝ }
     ensures { λ r. ⌜ Went p q (one (valueOf a)) (now (out .entry)) (now (out .exit)) r ⌝ }
 {
     if q <= p.x {

@@ -36,7 +36,7 @@ use Rattle.promises.specs.Room.{Compacted, Fits, Room}
 use Rattle.promises.proofs.Carried.{entriesOf, IsMap, Carried, carried, begin-carried}
 use Rattle.promises.proofs.Views.{View, quiet, new, wrote, turned, view}
 use Rattle.promises.proofs.Byte.{piece-same}
-use Rattle.promises.proofs.Demand3.{run-carried, said}
+use Rattle.promises.proofs.Demand3.{run-carried, said, always}
 
 -- An accepted compaction
 module _ (old buffer : List ℕ) (h : Bytes old) (z : compactAnswer old buffer ≡ 0) where
@@ -94,7 +94,6 @@ module _ (old buffer : List ℕ) (h : Bytes old) (z : compactAnswer old buffer �
         says = λ b. ap (λ (l : List Run). owner l b) back ∙ map-owner (runsOf width old) b;
         restarts = λ map. (same-answer map, same-restart map);
         few = n;
-        room = omega arith;
         twice = λ b answer newer e C. (C .answers ∙ again b e, C .log ∙ twice b e);
       }
 
@@ -158,7 +157,7 @@ among? q (p ∷ ps) =
     (λ (d : q ≡ p → ⊥). ⊎-elim (λ (m : Among q ps). inl (inr m)) (λ (m : Among q ps → ⊥). inr (⊎-elim d m)) (among? q ps))
     (piece-same q p)
 
--- those of the pieces ps that are among ns: however often each was noted, it is there once
+-- qs are those of the pieces ps that are among ns: however often each was noted, it is there once
 record Thinned (ns ps qs : List Piece) : Type 0 where
   few : length qs ≤ length ps
   all : (q : Piece) → Among q ns → Among q ps → Among q qs
@@ -189,28 +188,49 @@ thinned ns (p ∷ ps) =
     (among? p ns)
 
 -- one more, behind them
-among-snoc : (q p : Piece) (ns ps : List Piece) → ((x : Piece) → Among x ns → Among x ps) → Among p ps → Among q (ns ++ (p ∷ [])) → Among q ps
-among-snoc q p [] ps h k (inl e) = subst (λ (x : Piece). Among x ps) (sym e) k
-among-snoc q p [] ps h k (inr m) = absurd m
-among-snoc q p (n ∷ ns) ps h k (inl e) = h q (inl e)
-among-snoc q p (n ∷ ns) ps h k (inr m) = among-snoc q p ns ps (λ x y. h x (inr y)) k m
+among-snoc : (P : Piece → Type 0) (p : Piece) (ns : List Piece) → ((q : Piece) → Among q ns → P q) → P p → (q : Piece) → Among q (ns ++ (p ∷ [])) → P q
+among-snoc P p [] h k q (inl e) = subst P (sym e) k
+among-snoc P p [] h k q (inr m) = absurd m
+among-snoc P p (n ∷ ns) h k q (inl e) = h q (inl e)
+among-snoc P p (n ∷ ns) h k q (inr m) = among-snoc P p ns (λ x y. h x (inr y)) k q m
 
--- entries and pieces noted on them, all of them among ps
-with-pieces : (es : List Run) (ns ps : List Piece) → ((q : Piece) → Among q ns → Among q ps) → length (mapOf (es ++ map placeOf ns)) ≤ 2 * (length (mapOf es) + length ps) - 1
-with-pieces es ns ps h =
-    let qs : List Piece = thinned ns ps .0 in
-    let T : Thinned ns ps qs = thinned ns ps .1 in
-    let same : (b : ℕ) → owner (es ++ map placeOf ns) b ≡ owner (es ++ map placeOf qs) b =
-    λ b. owner-append es (map placeOf ns) b
-    ∙ (let u = says-less ns qs b (λ q m. T .all q m (h q m)) in let v = says-less qs ns b (T .only) in omega arith)
-    ∙ sym (owner-append es (map placeOf qs) b) in
-    let l = ap length (map-same (es ++ map placeOf ns) (es ++ map placeOf qs) same) in
-    let r = room-after es (map placeOf qs) in
-    let k = length-map qs placeOf in
-    let f = T .few in
-    omega arith
+-- entries that say what the pieces os say, and on them pieces that are all among ps or os
+module _ (es : List Run) (os : List Piece) (said : (b : ℕ) → owner es b ≡ owner (map placeOf os) b) (ns ps : List Piece) (h : (q : Piece) → Among q ns → Among q ps ⊎ Among q os) where
+  qs : List Piece
+  qs = thinned ns ps .0
 
-module _ (es : List Step) (s : Stripe) (C : Carried s) where
+  T : Thinned ns ps qs
+  unfolding qs
+  T = thinned ns ps .1
+
+  -- what is noted again is said already
+  no-more : (ms : List Piece) (b : ℕ) → ((q : Piece) → Among q ms → Among q ns) → owner (map placeOf ms) b ≤ max (owner es b) (owner (map placeOf qs) b)
+  unfolding owner
+  no-more [] b i = omega arith
+  no-more (m ∷ ms) b i =
+      let r = no-more ms b (λ q k. i q (inr k)) in
+      let o : over (placeOf m) b ≤ max (owner es b) (owner (map placeOf qs) b) =
+      ⊎-elim
+      (λ (k : Among m ps). omega (arith, says-one m qs b (T .all m (i m (inl refl)) k)))
+      (λ (k : Among m os). omega (arith, says-one m os b k, said b))
+      (h m (i m (inl refl))) in
+      omega arith
+
+  same : (b : ℕ) → owner (es ++ map placeOf ns) b ≡ owner (es ++ map placeOf qs) b
+  same b =
+      owner-append es (map placeOf ns) b
+      ∙ (let u = no-more ns b (λ q m. m) in let v = says-less qs ns b (T .only) in omega arith)
+      ∙ sym (owner-append es (map placeOf qs) b)
+
+  with-pieces : length (mapOf (es ++ map placeOf ns)) ≤ 2 * (length (mapOf es) + length ps) - 1
+  with-pieces =
+      let l = ap length (map-same (es ++ map placeOf ns) (es ++ map placeOf qs) same) in
+      let r = room-after es (map placeOf qs) in
+      let k = length-map qs placeOf in
+      let f = T .few in
+      omega arith
+
+module _ (es : List Step) (os : List Piece) (s : Stripe) (C : Carried s) (from : (b : ℕ) → owner (entriesOf s) b ≡ owner (map placeOf os) b) where
   abbrev t : Stripe
   t = after s es
 
@@ -227,14 +247,14 @@ module _ (es : List Step) (s : Stripe) (C : Carried s) where
       (λ b. owner-append (entriesOf t) (r ∷ []) b ∙ ap (λ (n : ℕ). max n (owner (r ∷ []) b)) (said es s C b) ∙ sym (owner-append (entriesOf s ++ map placeOf ns) (r ∷ []) b))
       ∙ ap mapOf (append-assoc (entriesOf s) (map placeOf ns) (r ∷ []) ∙ ap (λ (l : List Run). entriesOf s ++ l) (sym (map-append placeOf ns (p ∷ []))))
 
-  few : (ps : List Piece) → 2 * (length (mapOf (entriesOf s)) + length ps) - 1 ≤ maxRuns → ((q : Piece) → Among q ns → Among q ps)
-      → (p : Piece) → Among p ps → (m : List ℕ) → t .map ≡ live m → length (raise (placeOf p) (runsOf width m)) ≤ maxRuns
+  few : (ps : List Piece) → 2 * (length (mapOf (entriesOf s)) + length ps) - 1 ≤ maxRuns → ((q : Piece) → Among q ns → Among q ps ⊎ Among q os)
+      → (p : Piece) → Among p ps ⊎ Among p os → (m : List ℕ) → t .map ≡ live m → length (raise (placeOf p) (runsOf width m)) ≤ maxRuns
   few ps h a p k m e =
-      let b = with-pieces (entriesOf s) (ns ++ (p ∷ [])) ps (λ q. among-snoc q p ns ps a k) in
+      let b = with-pieces (entriesOf s) os from (ns ++ (p ∷ [])) ps (among-snoc (λ q. Among q ps ⊎ Among q os) p ns a k) in
       let u = ap length (raised m p e) in
       omega arith
 
-  fits : Fits s ns t
+  fits : Fits os s ns t
   unfolding noteAnswer
   fits =
       record {
@@ -251,5 +271,7 @@ room = record {
   compacted = λ old buffer answer new h C z.
       subst (Compacted old) (sym (C .log ∙ new-log old buffer h (sym (C .answers) ∙ z))) (compacted old buffer h (sym (C .answers) ∙ z));
   borders = few-runs;
-  fits = λ log image before since empty. fits since (after (begin log image) before) (run-carried before (begin log image) (begin-carried log image empty));
+  fits = λ log image before since empty.
+      let s : Stripe = after (begin log image) before in
+      fits since (noted (begin log image) before) s (run-carried before (begin log image) (begin-carried log image empty)) (always log image before empty .says);
 }

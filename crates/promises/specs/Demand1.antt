@@ -86,7 +86,7 @@ pub record Restarted : Type 0 where
   pub answer : ℕ
   pub map : List ℕ
 
-pub record Compacted : Type 0 where
+pub record CompactServed : Type 0 where
   pub answer : ℕ
   pub log : List ℕ
 
@@ -166,7 +166,7 @@ OfRestart map log =
 
 abbrev pub OfCompact : List ℕ → List ℕ → Type 0
 OfCompact log new =
-    Promised {R = Compacted}
+    Promised {R = CompactServed}
     (λ x. Compacts log new (x .answer) (x .log))
     (λ x. x .answer)
     (compactRules (eqb (length new) (logSize width)) (soundLogBytes log) (runsOf width log)) (numbers compact)

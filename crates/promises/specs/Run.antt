@@ -83,10 +83,10 @@ writeOk s lost p = false
 writeOk s (live m) p = eqb (writeAnswer m (extentOf p) (length (s .image))) 0
 
 -- "with no note between the call and that store": a second log lacks what is noted after its compaction, so it is not turned to any more. (The run
--- `compact b, note p, turn` would lose the entry of p: after a cut p is not in the map, and its write is refused with 18)
+-- `note q, compact, note p, write p, turn, cut, restart, write q`, with q older than p and over the same byte, would lose p's entry, and end with q's byte)
 abbrev pub outdated : Bool → Second → Second
-outdated noted none = none
-outdated noted (ready log) = cond noted none (ready log)
+outdated isNoted none = none
+outdated isNoted (ready log) = cond isNoted none (ready log)
 
 -- What each call leaves when it runs to its end
 unfoldable pub afterNote : Stripe → Map → Piece → Stripe

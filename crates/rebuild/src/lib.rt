@@ -116,7 +116,7 @@ fn owned(log: &[u8], begun: &[u16], n: usize, q: u64) -> Stretch
 // Draws the map of a sound log whose entries are sorted, and counts its runs.
 fn draw(out: &mut [u8], log: &[u8], order: &[u16], begun: &mut [u16]) -> usize
     requires { ⌜ Ordered (now log) (now order) ⌝ }
-    requires { ⌜ (length (now begun) ≡ maxEntries) × (mapSize width ≤ length (now out)) ⌝ }
+    requires { ⌜ (length (now begun) ≡ maxEntries) × (length (now out) ≡ mapSize width) ⌝ }
     ensures { λ k. ⌜ Stored (mapOf (runsOf width (now (log .entry)))) (now (out .entry)) (now (out .exit)) k ⌝ }
 {
     let mut p = pen::start();
@@ -131,7 +131,7 @@ fn draw(out: &mut [u8], log: &[u8], order: &[u16], begun: &mut [u16]) -> usize
 
 // Draws the map of a sound log, and counts its runs.
 pub fn rebuilt(out: &mut [u8], log: &[u8]) -> usize
-    requires { ⌜ (mapSize width ≤ length (now out)) × (soundLogBytes (now log) ≡ true) ⌝ }
+    requires { ⌜ (length (now out) ≡ mapSize width) × (soundLogBytes (now log) ≡ true) ⌝ }
     ensures { λ k. ⌜ Stored (mapOf (runsOf width (now (log .entry)))) (now (out .entry)) (now (out .exit)) k ⌝ }
 {
     let mut order = [0u16; runbytes::MAX_ENTRIES];

@@ -1,7 +1,7 @@
 -- `draw`: the pen stands where the walk is, and what is drawn is what the log says before it.
 use Prim.Native.Nat.{suc, _-_, _≤_}
 use native.Mathlib.Omega.{arith}
-use mathlib.Core.Path.{_≡_, refl}
+use mathlib.Core.Path.{_≡_}
 use lib.ListN.{length}
 use borrow.Author.Needs.{needs}
 use denote.Ref.{now}
@@ -9,7 +9,7 @@ use Rattle.common.specs.Counters.{width}
 use Rattle.common.specs.Ranges.{eof}
 use Rattle.runs.specs.Owner.{owner}
 use Rattle.runs.specs.Sound.{maxEntries}
-use Rattle.runs.specs.Bytes.{runsOf}
+use Rattle.runs.specs.Bytes.{mapSize, runsOf}
 use Rattle.runs.proofs.Valid.{beyond}
 use Rattle.runs.proofs.Stretch.{map-drawn}
 use Rattle.runbytes.proofs.Facts.{log-facts}
@@ -23,13 +23,13 @@ use Rattle.rebuild.proofs.draw.Tie as tie
 
 abbrev Inv-loop : tie.InvT-loop
 Inv-loop out₀ log order begun₀ p₀ w₀ out begun p w =
-    (length out ≡ length out₀) × (length begun ≡ maxEntries) × Fine p × (p .x ≤ suc eof) × Drawn (owner (runsOf width log)) out₀ out p × Walking log order begun (p .x) w
+    (length out ≡ mapSize width) × (length begun ≡ maxEntries) × Fine p × (p .x ≤ suc eof) × Drawn (owner (runsOf width log)) out₀ out p × Walking log order begun (p .x) w
 
 abbrev μ-loop : tie.MeasureT-loop
 μ-loop out₀ log order begun₀ p₀ w₀ out begun p w = suc eof - p .x
 
 loop-holds : tie.Need-loop-holds Inv-loop μ-loop
-loop-holds c = let p = c .before .before .before .before .before .pre in rw (c .start .ensures) (refl, p .1 .0, fresh-fine, omega arith, drawn-fresh _ _, none-taken _ _ _ _)
+loop-holds c = let p = c .before .before .before .before .before .pre in rw (c .start .ensures) (p .1 .1, p .1 .0, fresh-fine, omega arith, drawn-fresh _ _, none-taken _ _ _ _)
 
 advance-requires : tie.Need-advance-requires Inv-loop μ-loop
 advance-requires c κs = let l = c .before .before .before .loop in (c .before .before .before .before .before .before .before .before .before .pre .0, (l .inv .1, l .inv .5, c .before .if1 .taken))
@@ -56,7 +56,7 @@ push-requires : tie.Need-push-requires Inv-loop μ-loop
 push-requires c κs =
     let o = c .before .before .before .before .before .before .before .before .before .before .before .before .before .before .before .before in
     let l = c .before .before .before .before .before .before .before .before .before .before .loop in
-    (omega (arith, l .inv .0, o .pre .1 .1), l .inv .2, rw (c .before .owned .ensures, c .before .before .next-first .ensures) (owns _ _ (log-facts _ (o .pre .0 .0)) (o .pre .0 .2) _ _ _ (c .before .before .before .before .before .before .advance .ensures) .exact))
+    (omega (arith, l .inv .0), l .inv .2, rw (c .before .owned .ensures, c .before .before .next-first .ensures) (owns _ _ (log-facts _ (o .pre .0 .0)) (o .pre .0 .2) _ _ _ (c .before .before .before .before .before .before .advance .ensures) .exact))
 
 loop-again : tie.Need-loop-again Inv-loop μ-loop
 loop-again c =

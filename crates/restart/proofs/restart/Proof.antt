@@ -15,7 +15,7 @@ returns-2 : tie.Need-returns-2
 returns-2 c = restart-13 _ _ (c .before .before .if1 .left) _ (c .before .log-sound .ensures) (c .if2 .taken)
 
 rebuilt-requires : tie.Need-rebuilt-requires
-rebuilt-requires c κs = (omega (arith, length-replicate {A = ℕ} (mapSize width) 0), sym (c .before .before .log-sound .ensures) ∙ not-false _ (c .before .if2 .left))
+rebuilt-requires c κs = (length-replicate {A = ℕ} (mapSize width) 0, sym (c .before .before .log-sound .ensures) ∙ not-false _ (c .before .if2 .left))
 
 returns-3 : tie.Need-returns-3
 returns-3 c =
