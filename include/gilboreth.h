@@ -80,18 +80,21 @@ extern "C" {
  * If the storage fails while you put something down or wait for it, go on as after a cut.
  *
  * Room in the log. A log has at most 2,048 entries, so GIL_MAX_ENTRIES - gil_count(log) more notes fit. gil_compact
- * makes a log of at most 1,024 entries that has the same map. Compact early, while notes still fit:
- *   1. Lend gil_compact the log in memory, and a second buffer.
- *   2. Put the new log down, whole, where the stored log is not. Wait until it is durable.
- *   3. Turn to it: one store, of a word that says which log is the stored one, or a rename. Wait until it is durable.
- *   4. Only now comes the next note, on the new log. The map stays as it is.
+ * makes a log that has the same map, with an entry for each of its runs: at most 1,024, but these may be more than
+ * the old log had. So compact when the log is nearly full, as the example daemon does at 2,000 entries:
+ *   1. Let each note that is under way come to its step 4, and begin no other.
+ *   2. Lend gil_compact the log in memory, and a second buffer.
+ *   3. Put the new log down, whole, where the stored log is not. Wait until it is durable.
+ *   4. Turn to it: one store, of a word that says which log is the stored one, or a rename. Wait until it is durable.
+ *      After a rename open the file anew: what was opened or mapped before is still the old one.
+ *   5. Only now may notes begin again, on the new log. The map stays as it is.
  * A cut finds either log, and both have the same map. After a cut the log is the one that the word names, or that
  * has the name. What stands in the other is of no use: compact anew.
- * No note from step 1 to step 4: its entry would stand in the old log alone, and be lost by the turn. If one was
+ * No note between step 1 and step 5: its entry would stand in the old log alone, and be lost by the turn. If one was
  * accepted before the turn all the same, begin again at step 1. Writes and restarts may come between.
  *
  * Room in the map. A map has at most 1,024 runs, and a note that needs more is refused with RUNS. A holder that
- * can't note can't write, and so can't release: where every holder is refused, the stripe is stuck for ever.
+ * can't note can't write, and so can't release: where no other holder's piece makes room, it is stuck for ever.
  * Compaction does not help, since it leaves the map as it is. So for each stripe count
  *   - the runs: gil_count(map);
  *   - the outstanding pieces, that may still be noted: those of the holders of write locks, and those of the
@@ -100,19 +103,21 @@ extern "C" {
  * Hand in a write request only while runs and outstanding pieces, its own too, are together at most 512. Then
  * every outstanding piece fits, wherever it lies and in whatever order they come: the map of n entries has at
  * most 2n - 1 runs. (One piece may add many runs: an old one fills every gap between newer ones.)
- * gil_pieces_that_fit says how many pieces may be outstanding. When they are too many, hand in no more write
- * requests for this stripe, let the holders flush and release, and start the log again.
+ * A piece that is noted again does not count again. gil_pieces_that_fit says how many pieces may be outstanding.
+ * When they are too many, hold back the clients' write requests for this stripe, let the holders flush and release,
+ * and start the log again.
  *
  * A log that starts again. Only when no older piece can come any more: every write lock of the stripe is
  * released, and every noted piece is written. Then put down 0 for the count of the stored log as one store, wait
  * until it is durable, and restart: log and map are empty. Keep the table: its numbers go on rising.
- * A way there: request PW for bytes 0 to EOF of the stripe, for a client number of your own. It asks every lock of
- * the stripe back, and later requests wait behind it. Once it is granted no other lock of the stripe is held: start
- * the log again, and release it.
+ * A way there: request PW for bytes 0 to EOF of the stripe, for a client number of your own. It has no pieces, so it
+ * may be handed in at any time. It asks every lock of the stripe back, and later requests wait behind it. Once it is
+ * granted no other lock of the stripe is held: start the log again, and release it.
  *
- * What this gives (proved, with cuts anywhere, and compactions and turns among the steps): once each noted piece
- * had a write accepted, and the last accepted write of every piece ran to its end, each byte under a noted piece
- * is that of the noted piece with the greatest number there, and every other byte is as it began.
+ * What this gives (proved of a run from an empty log on, with cuts anywhere, and compactions and turns among the
+ * steps): once each noted piece had a write accepted, and the last accepted write of every piece ran to its end, each
+ * byte under a noted piece is that of the noted piece with the greatest number there, and every other byte is as it
+ * began.
  */
 
 /* 3. Sizes, limits and codes
@@ -231,7 +236,8 @@ static inline const char *gil_refusal_text(uint64_t refusal)
     case GIL_REFUSED_RUNS:
         return "The map would need over 1,024 runs: nothing is lost, the holder keeps the piece; let others flush and "
                "note it again, since a newer piece over several runs makes room; the rule on room in the map "
-               "(gilboreth.h, part 2) keeps clear of this.";
+               "(gilboreth.h, part 2) keeps clear of this. Of a restart or a compaction: no notes made this log, so do "
+               "as for a damaged one.";
     case GIL_REFUSED_ENTRIES:
         return "The log is full with 2,048 entries: compact it, turn to the new log, and note again.";
     case GIL_REFUSED_SMALLER:
@@ -455,7 +461,7 @@ GIL_CHECKED uint64_t gil_write(const uint8_t *map, size_t map_len, uint8_t *imag
  */
 GIL_CHECKED uint64_t gil_restart(uint8_t *map, size_t map_len, const uint8_t *log, size_t log_len);
 
-/* Fills a second log with as few entries as say the same: the runs of the old log's map, rising, zeros after.
+/* Fills a second log with an entry for each run of the old log's map, rising, zeros after.
  *
  * Takes: the log; a second buffer of GIL_LOG_BYTES, whose content does not matter.
  * Answers: 0, or the refusal. After 0 turn to the new log before the next note, as part 2 says. It has at most

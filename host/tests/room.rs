@@ -94,6 +94,32 @@ fn the_rule_is_sharp() {
     library.reached(6_168, &[0, 16]);
 }
 
+/// r + n = 512 with every piece noted twice, those of before again and again, and compactions between: a
+/// piece that is noted again takes no room in the map.
+#[test]
+fn a_piece_that_is_noted_again_takes_no_room() {
+    let mut library = Beside::new(LIBRARY);
+    let mut stripe = Stripe::new(&mut library);
+    for place in 0..256 {
+        assert_eq!(stripe.note(2_000 * place + 1, 2_000 * place + 1_501, 2), 0);
+    }
+    for place in 1..256 {
+        assert_eq!(stripe.note(1 + place, 1_501 - place, 2 + place), 0);
+        let runs = stripe.runs();
+        assert_eq!(stripe.note(1 + place, 1_501 - place, 2 + place), 0);
+        assert_eq!(stripe.note(2_000 * place + 1, 2_000 * place + 1_501, 2), 0);
+        assert_eq!(stripe.runs(), runs);
+        if place % 100 == 0 {
+            stripe.compact();
+        }
+    }
+    for _ in 0..2 {
+        assert_eq!(stripe.note(0, IMAGE - 1, 1), 0);
+        assert_eq!(stripe.runs(), 1_023);
+    }
+    library.reached(1_027, &[0]);
+}
+
 /// A short piece, or an old one over many newer runs.
 fn drawn(random: &mut Random) -> [u64; 3] {
     let first = random.below(4_000);
