@@ -1,6 +1,7 @@
 """Kills the example daemon with SIGKILL at random places, and checks what it leaves.
 
-    kills.py --compact-at N [--seed N] [--kills N] [--turns N] [--seconds N] [--inside] [--only-the-end] DAEMON..
+    kills.py --compact-at N [--seed N] [--kills N] [--turns N] [--seconds N] [--inside] [--long-logs] [--only-the-end]
+             DAEMON..
     (DAEMON.. are the words that start the daemon, which is compiled with -DCOMPACT_AT=N)
 
 A run begins with an empty log and an image of its own. Clients note, write and flush pieces in any order and again; the
@@ -15,6 +16,10 @@ turns to the new log. This file keeps its own account of the stripe, byte by byt
 At the end of a run, after all kills, each piece that was noted and had no write accepted, or whose last accepted write was
 cut, is written until that is answered. Then each byte under a noted piece must be that of the noted piece with the greatest number there, and every other byte as
 it began. --only-the-end leaves out the checks before.
+
+Pieces are small, large and larger, so maps have few runs, and so have the logs that are turned to. With --long-logs all
+pieces are small, and a run begins with so many of them that its logs stay nearly as long as one that is compacted. At its
+end all noted pieces are written again: where the log has lost an entry, that of its piece is refused.
 
 Kills come from outside, at any time. With --inside the daemon kills itself, as trap.c has it: inside of a call, or between
 two of its stores. Each kill is counted by the place that it found, as the files show it (PLACES).
@@ -145,6 +150,7 @@ class Stripe:
 class Run:
     def __init__(self, options, chance, directory, seen):
         self.daemon, self.inside, self.only_the_end = options.daemon, options.inside, options.only_the_end
+        self.long_logs = options.long_logs
         self.chance, self.directory, self.seen = chance, directory, seen
         began = bytes(chance.randrange(128, 256) for _ in range(1000)) * (LENGTH // 1000 + 1)
         self.stripe = Stripe(began[:LENGTH], options.compact_at)
@@ -266,14 +272,21 @@ class Run:
         chance, pieces, weights = self.chance, [], []
         for start in range(STARTS):
             # New pieces, of which some are older than what is noted; and commands, which are mostly theirs.
-            for most in (9, 5_000, 150_000) * 4:
+            fill, full = self.long_logs and start == 0, self.stripe.compact_at
+            many = chance.randint(full * 7 // 10, full) if fill else 12
+            for i in range(many):
+                most = 9 if self.long_logs else (9, 5_000, 150_000)[i % 3]
                 first = chance.randrange(LENGTH)
                 number = chance.randint(max(1, 6 * start - 10), 6 * start + 6)
                 pieces.append(Piece(first, chance.randint(1, min(most, LENGTH - first)), number))
-            weights = [1] * len(weights) + [10] * 12
+            weights = [1] * len(weights) + [10] * many
             names = chance.choices(("note", "write", "flush", "restart"), (4, 6, 6, 1), k=LINES)
-            self.serve(list(zip(names, chance.choices(pieces, weights, k=LINES))), kill=start > 0)
-        rest = list(dict.fromkeys([piece for piece in self.stripe.noted if piece not in self.written] + self.unfinished))
+            commands = list(zip(names, chance.choices(pieces, weights, k=LINES)))
+            if fill:
+                commands = [("flush", piece) for piece in pieces]
+            self.serve(commands, kill=start > 0)
+        done = set() if self.long_logs else self.written
+        rest = list(dict.fromkeys([piece for piece in self.stripe.noted if piece not in done] + self.unfinished))
         chance.shuffle(rest)
         for kill in (True, True, False):
             rest = rest[self.serve([("write", piece) for piece in rest], kill) :]
@@ -300,6 +313,7 @@ def main():
     parser.add_argument("--turns", type=int, default=50)
     parser.add_argument("--seconds", type=float, default=60)
     parser.add_argument("--inside", action="store_true")
+    parser.add_argument("--long-logs", action="store_true")
     parser.add_argument("--only-the-end", action="store_true")
     parser.add_argument("daemon", nargs=argparse.REMAINDER)
     options = parser.parse_args()

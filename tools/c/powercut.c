@@ -4,9 +4,12 @@
  * msync, sectors that were stored and not waited for reach the file, in no order. GIL_CUT is a seed; if it is not 0,
  * the program is killed at some msync, right after such sectors; most often at those of a turn, which are few.
  *
- * -DIMPATIENT ignores the msync of an entry: a program that does not wait between entry and count.
+ * -DIMPATIENT=.. ignores the msync of an entry from that byte of a log on: a program that does not wait between entry and
+ * count.
  * -DHASTY does the msync of a new log after that of the word: a program that turns before the new log is durable. It is
  * killed between the two alone.
+ * -DFRONT=.. does the msync of a new log up to that byte: a program that waits for its front alone before it turns. It is
+ * killed at the msync of the word alone.
  */
 #define _POSIX_C_SOURCE 200809L
 #include <gilboreth.h>
@@ -106,13 +109,18 @@ int __wrap_msync(void *address, size_t length, int flags)
         m = late;
         length = m->length;
     }
+#elif defined FRONT
+    if (word)
+        perhaps_cut(2);
+    if (new_log)
+        length = FRONT;
 #else
     perhaps_cut(word || new_log ? 5 : 80);
 #endif
     if (chance(4))
         store_some_sectors(2);
 #ifdef IMPATIENT
-    if (m->length == GIL_LOG_BYTES && !new_log && length != sizeof(uint32_t))
+    if (m->length == GIL_LOG_BYTES && !new_log && length != sizeof(uint32_t) && first + length > IMPATIENT)
         return 0;
 #endif
     store(m, first, first + length);
