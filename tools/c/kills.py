@@ -1,7 +1,7 @@
 """Kills the example daemon with SIGKILL at random places, and checks what it leaves.
 
-    kills.py --compact-at N [--seed N] [--kills N] [--turns N] [--seconds N] [--inside] [--long-logs] [--only-the-end]
-             DAEMON..
+    kills.py --compact-at N [--seed N] [--kills N] [--turns N] [--seconds N] [--inside | --power] [--long-logs]
+             [--only-the-end] DAEMON..
     (DAEMON.. are the words that start the daemon, which is compiled with -DCOMPACT_AT=N)
 
 A run begins with an empty log and an image of its own. Clients note, write and flush pieces in any order and again; the
@@ -14,21 +14,24 @@ turns to the new log. This file keeps its own account of the stripe, byte by byt
   - the image is as the account has it, but for bytes that the write that was cut would store.
 
 At the end of a run, after all kills, each piece that was noted and had no write accepted, or whose last accepted write was
-cut, is written until that is answered. Then each byte under a noted piece must be that of the noted piece with the greatest number there, and every other byte as
-it began. --only-the-end leaves out the checks before.
+cut, is written until that is answered. Then each byte under a noted piece must be that of the noted piece with the greatest
+number there, and every other byte as it began. --only-the-end leaves out the checks before.
 
 Pieces are small, large and larger, so maps have few runs, and so have the logs that are turned to. With --long-logs all
 pieces are small, and a run begins with so many of them that its logs stay nearly as long as one that is compacted. At its
-end all noted pieces are written again: where the log has lost an entry, that of its piece is refused.
+end all noted pieces are written again: where the log has lost an entry, the write of its piece is refused.
 
 Kills come from outside, at any time. With --inside the daemon kills itself, as trap.c has it: inside of a call, or between
-two of its stores. Each kill is counted by the place that it found, as the files show it (PLACES).
+two of its stores. With --power it loses power or kills itself, as powercut.c has it. What a kill left may go back by a
+loss of power at the next start, before the answer of its restart: then the command that was cut is looked at again. Each
+kill is counted by the place that it found, as the files show it (PLACES).
 
-Runs are played until there were so many kills, so many turns, and a kill in each place; from outside, where some places are
-met by luck alone, one at a restart, one in a note, one in a turn and one in a write. Where so many seconds are not enough
-for that, it has failed. What is wrong ends it with status 10.
+Runs are played until there were so many kills, so many turns, and a kill in each place; without --inside, where some places
+are met by luck alone, one at a restart, one in a note, one in a turn and one in a write. Where so many seconds are not
+enough for that, it has failed. What is wrong ends it with status 10.
 """
 import argparse
+import copy
 import os
 import random
 import re
@@ -136,6 +139,12 @@ class Stripe:
         stored, kept = (int.from_bytes(a, "big") & int.from_bytes(b, "big") for a, b in masks)
         return (stored | kept).to_bytes(len(equal), "big")
 
+    def copy(self):
+        other = copy.copy(self)
+        other.image, other.numbers = self.image[:], self.numbers[:]
+        other.noted, other.entries = self.noted[:], self.entries[:]
+        return other
+
     def write(self, piece, data):
         self.image[piece.first : piece.end] = self.after(piece, data)
 
@@ -149,8 +158,8 @@ class Stripe:
 
 class Run:
     def __init__(self, options, chance, directory, seen):
-        self.daemon, self.inside, self.only_the_end = options.daemon, options.inside, options.only_the_end
-        self.long_logs = options.long_logs
+        self.daemon, self.only_the_end, self.long_logs = options.daemon, options.only_the_end, options.long_logs
+        self.inside, self.power = options.inside, options.power
         self.chance, self.directory, self.seen = chance, directory, seen
         began = bytes(chance.randrange(128, 256) for _ in range(1000)) * (LENGTH // 1000 + 1)
         self.stripe = Stripe(began[:LENGTH], options.compact_at)
@@ -158,6 +167,7 @@ class Run:
         self.written = set()  # pieces whose last accepted write ran to its end
         self.unfinished = []  # pieces whose last accepted write was cut
         self.found = {}  # the logs as the daemon found them
+        self.cut = None  # the command that was cut last, and the stripe and the logs before it
         self.seconds = 0  # how long the daemon takes for its commands
 
     def path(self, name):
@@ -182,7 +192,7 @@ class Run:
         if self.chance.randrange(8) > 0:
             first, wait = process.stdout.readline(), 0.6 * self.seconds  # a sleep is longer than it is asked to be
         begun = time.perf_counter()
-        if kill and not self.inside:
+        if kill and not self.inside and not self.power:
             time.sleep(wait * self.chance.random())
             process.send_signal(signal.SIGKILL)
         answers = (first + process.communicate()[0]).splitlines()
@@ -202,7 +212,13 @@ class Run:
         if killed and not answers:
             self.seen["at a restart"] += 1  # that of the start
             under_way = (None, None)
-        self.look(*under_way)
+            if self.power:  # what the command that was cut last had stored may have gone back
+                under_way, before, self.found = self.cut
+                self.stripe = before.copy()
+            self.look(*under_way)
+        else:
+            self.cut = under_way, self.stripe.copy(), self.found
+            self.seen.update(self.look(*under_way))
         return answered
 
     def account(self, name, piece, answer):
@@ -220,7 +236,8 @@ class Run:
             self.unfinished = [other for other in self.unfinished if other is not piece]
 
     def look(self, name, piece):
-        """The daemon has ended, perhaps amid this command. Word and log say whether its turn or its note was cut."""
+        """The daemon has ended, perhaps amid this command. Word and log say whether its turn or its note was cut. Answers
+        the places that this was."""
         image, stripe = self.stored("image"), self.stripe
         logs = {log: self.stored(log) for log in LOGS}
         word = COUNT.unpack(self.stored("turn"))[0]
@@ -239,24 +256,24 @@ class Run:
         count = min(COUNT.unpack_from(log)[0], 2048)
         end = COUNT.size + ENTRY.size * count
         entry = slice(end, end + ENTRY.size)
-        writing = name == "write" and not stripe.refuses(piece)
+        writing, places = name == "write" and not stripe.refuses(piece), []
         if name == "restart":
-            self.seen["at a restart"] += 1
+            places.append("at a restart")
         elif noting and count == len(stripe.entries) + 1:
             stripe.note(piece)
             writing = name == "flush"
-            self.seen["after the count of a note"] += 1
+            places.append("after the count of a note")
         elif noting and log[entry] == piece.entry and self.found[LOGS[word]][entry] != piece.entry:
-            self.seen["between entry and count of a note"] += 1
+            places.append("between entry and count of a note")
         elif noting:
-            self.seen[place] += 1
+            places.append(place)
         if writing:
             self.unfinished.append(piece)
             self.written.discard(piece)
             now, old = image[piece.first : piece.end], bytes(stripe.image[piece.first : piece.end])
             done = stripe.after(piece, piece.bytes)
             if old != done:
-                self.seen[f"{'before' if now == old else 'after' if now == done else 'amid'} the bytes of a write"] += 1
+                places.append(f"{'before' if now == old else 'after' if now == done else 'amid'} the bytes of a write")
             stripe.write(piece, now)  # any bytes at the places that it would store
         self.found = logs
         if not self.only_the_end:
@@ -267,6 +284,7 @@ class Run:
             compare("when the daemon had ended", image, stripe.image)
         stripe.image[:] = image
         stripe.word, stripe.entries = word, [log[i : i + ENTRY.size] for i in range(COUNT.size, end, ENTRY.size)]
+        return places
 
     def play(self):
         chance, pieces, weights = self.chance, [], []
@@ -313,6 +331,7 @@ def main():
     parser.add_argument("--turns", type=int, default=50)
     parser.add_argument("--seconds", type=float, default=60)
     parser.add_argument("--inside", action="store_true")
+    parser.add_argument("--power", action="store_true")
     parser.add_argument("--long-logs", action="store_true")
     parser.add_argument("--only-the-end", action="store_true")
     parser.add_argument("daemon", nargs=argparse.REMAINDER)
