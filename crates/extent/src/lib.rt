@@ -1,8 +1,6 @@
-// A piece's extent: its age, and the tests that note and write share, refusals 14 and 15.
-use runs::Age;
+// A piece's extent: the tests that note and write share, refusals 14 and 15.
 use stripe::Extent;
 ghost use mathlib.Core.Path.{_≡_};
-ghost use Rattle.stripe.specs.Piece.{place};
 ghost use Rattle.stripe.specs.Refusals.{misplaced, misnumbered};
 
 // Tests whether a piece has length 0, or lies past the image or past EOF.
@@ -25,13 +23,5 @@ pub fn is_misplaced(e: Extent, image: u64) -> bool
 pub fn is_misnumbered(e: Extent) -> bool
     ensures { λ r. ⌜ r ≡ misnumbered e ⌝ }
 {
-    (e.number.0 == 0) | (common::HIGHEST < e.number.0)
-}
-
-// Makes the age of a piece.
-pub fn age_of(e: Extent) -> Age
-    ensures { λ r. ⌜ r ≡ place e .age ⌝ }
-{
-    let number = e.number;
-    Age { number }
+    (e.age.number.0 == 0) | (common::HIGHEST < e.age.number.0)
 }

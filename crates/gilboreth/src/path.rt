@@ -1,5 +1,6 @@
 // The note-and-write path of one stripe: note, write, restart, compact.
 use common::Number;
+use runs::Age;
 use stripe::Extent;
 ghost use Rattle.stripe.specs.Piece.{extent, piece};
 ghost use Rattle.note.specs.Note.{Notes};
@@ -19,11 +20,10 @@ pub extern "C" fn gil_note(
 ) -> u64
     ensures { λ r. ⌜ Notes (now (map .entry)) (now (log .entry)) (extent first len number) image r (now (map .exit)) (now (log .exit)) ⌝ }
 {
-    let e = Extent {
-        first,
-        len,
+    let age = Age {
         number: Number(number),
     };
+    let e = Extent { first, len, age };
     note::note(map, log, e, image)
 }
 
@@ -38,7 +38,10 @@ pub extern "C" fn gil_write(
 ) -> u64
     ensures { λ r. ⌜ Writes (now (map .entry)) (piece first (now (bytes .entry)) number) (now (image .entry)) r (now (image .exit)) ⌝ }
 {
-    write::write(map, image, first, bytes, Number(number))
+    let age = Age {
+        number: Number(number),
+    };
+    write::write(map, image, first, bytes, age)
 }
 
 // Fills the map with the log's map.

@@ -32,10 +32,11 @@ pub fn note(map: &mut [u8], log: &mut [u8], e: Extent, image: u64) -> u64
     if refusal != 0 {
         return refusal;
     }
+    let age = e.age;
     let piece = Run {
         first: e.first,
         last: e.first + (e.len - 1),
-        age: extent::age_of(e),
+        age,
     };
     let mut scratch = [0u8; runbytes::MAP_SIZE];
     let raised = maps::raised(&mut scratch, map, piece);

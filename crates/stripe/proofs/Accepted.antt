@@ -41,8 +41,8 @@ pub record Numbered (e : Extent) : Type 0 where
 pub numbered : (e : Extent) → misnumbered e ≡ false → Numbered e
 unfolding sane valueOf
 numbered e h =
-    let p : 0 < e .number .0 = search (or-left, or-right, not-zero) in
-    record { sane = lt-ltb 0 (e .number .0) p; fits = search (or-left, or-right, ltb-false) }
+    let p : 0 < e .age .number .0 = search (or-left, or-right, not-zero) in
+    record { sane = lt-ltb 0 (e .age .number .0) p; fits = search (or-left, or-right, ltb-false) }
 
 pub numbered-pos : (e : Extent) → Numbered e → 0 < ageOf (place e)
 numbered-pos e n = sane-pos (place e .age) (n .sane)

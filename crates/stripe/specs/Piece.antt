@@ -8,11 +8,11 @@ use Rattle.stripe.specs.declared.Extent.{Extent}
 
 -- What is told of a piece: "the piece's first byte, length, number"
 abbrev pub extent : ℕ → ℕ → ℕ → Extent
-extent first len n = record { first = first; len = len; number = number n }
+extent first len n = record { first = first; len = len; age = record { number = number n } }
 
 -- Its place: its bytes from the first on, at its age
 abbrev pub place : Extent → Run
-place e = record { first = e .first; last = pred (e .first + e .len); age = record { number = e .number } }
+place e = record { first = e .first; last = pred (e .first + e .len); age = e .age }
 
 -- A piece: its first byte, its bytes and its number. Two pieces with all three alike are one piece
 pub record Piece : Type 0 where

@@ -21,7 +21,7 @@ misplaced e image = eqb (e .len) 0 || (ltb image (e .first + e .len) || ltb eof 
 
 -- 15: "number 0 or above 4,294,967,295"
 abbrev pub misnumbered : Extent → Bool
-misnumbered e = eqb (e .number .0) 0 || ltb (highest width) (e .number .0)
+misnumbered e = eqb (e .age .number .0) 0 || ltb (highest width) (e .age .number .0)
 
 -- 18: "some byte of the piece has a smaller number in the map": one of the `len` bytes from b on
 unfoldable pub behind : List Run → ℕ → ℕ → ℕ → Bool

@@ -1,5 +1,5 @@
 // Write: the piece goes into the middle of the lent image.
-use common::Number;
+use runs::Age;
 use stripe::Extent;
 ghost use mathlib.Core.Path.{_≡_};
 ghost use Rattle.stripe.specs.Piece.{piece};
@@ -18,20 +18,20 @@ fn refusal(map: &[u8], e: Extent, image: u64) -> u64
     if extent::is_misnumbered(e) {
         return 15;
     }
-    if behind::is_behind(map, e.first, e.len, extent::age_of(e)) {
+    if behind::is_behind(map, e.first, e.len, e.age) {
         return 18;
     }
     0
 }
 
 // Stores a piece's bytes in the image where the map has the piece's age, and answers the refusal or 0.
-pub fn write(map: &[u8], image: &mut [u8], first: u64, bytes: &[u8], number: Number) -> u64
-    ensures { λ r. ⌜ Writes (now (map .entry)) (piece first (now (bytes .entry)) (number .0)) (now (image .entry)) r (now (image .exit)) ⌝ }
+pub fn write(map: &[u8], image: &mut [u8], first: u64, bytes: &[u8], age: Age) -> u64
+    ensures { λ r. ⌜ Writes (now (map .entry)) (piece first (now (bytes .entry)) (age .number .0)) (now (image .entry)) r (now (image .exit)) ⌝ }
 {
     let e = Extent {
         first,
         len: bytes.len() as u64,
-        number,
+        age,
     };
     let r = refusal(map, e, image.len() as u64);
     if r != 0 {
@@ -39,6 +39,6 @@ pub fn write(map: &[u8], image: &mut [u8], first: u64, bytes: &[u8], number: Num
     }
     let at = first as usize;
     let end = at + bytes.len();
-    store::store(&mut image[at..end], bytes, map, first, extent::age_of(e));
+    store::store(&mut image[at..end], bytes, map, first, age);
     0
 }

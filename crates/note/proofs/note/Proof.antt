@@ -16,23 +16,21 @@ facts :
     (c : tie.Else1) → let a = c .before .before .before .before .before .before .args in Unrefused (now (a .map)) (now (a .log)) (a .e) (a .image)
 facts c = unrefused _ _ _ _ _ (c .before .early .ensures) (c .if1 .left)
 
-sub-t14 : tie.Need-sub-t14
-sub-t14 c = omega (arith, facts (c .before) .some)
+sub-t15 : tie.Need-sub-t15
+sub-t15 c = omega (arith, facts (c .before .before) .some)
 
-add-t15 : tie.Need-add-t15
-add-t15 c = let p = facts (c .before .before) in omega (arith, p .some, p .inside)
+add-t16 : tie.Need-add-t16
+add-t16 c = let p = facts (c .before .before .before) in omega (arith, p .some, p .inside)
 
 raised-requires : tie.Need-raised-requires
 raised-requires c κs =
-    let g = c .before .before in
-    let p = facts (g .before .before .before) in
-    (length-replicate {A = ℕ} (mapSize width) 0, p .mapped, rw (g .age-of .ensures) (p .valid))
+    let p = facts (c .before .before .before .before .before) in
+    (length-replicate {A = ℕ} (mapSize width) 0, p .mapped, p .valid)
 
 returns-2 : tie.Need-returns-2
 returns-2 c =
     let r = c .before .before in
-    let g = r .before .before .before in
-    note-16 _ _ _ _ (facts (g .before .before .before)) _ _ _ (rw (g .age-of .ensures) at (r .raised .ensures)) (c .if2 .taken)
+    note-16 _ _ _ _ (facts (r .before .before .before .before .before .before)) _ _ _ (r .raised .ensures) (c .if2 .taken)
 
 count-requires : tie.Need-count-requires
 count-requires c κs = let p = facts (c .before .before .before .before .before .before .before .before .before) in omega (arith, p .log .long)
@@ -41,8 +39,7 @@ returns-3 : tie.Need-returns-3
 returns-3 c =
     let t = c .before .before .before in
     let r = t .before .before in
-    let g = r .before .before .before in
-    note-17 _ _ _ _ (facts (g .before .before .before)) _ _ _ (rw (g .age-of .ensures) at (r .raised .ensures)) (t .if2 .left) (omega arith)
+    note-17 _ _ _ _ (facts (r .before .before .before .before .before .before)) _ _ _ (r .raised .ensures) (t .if2 .left) (omega arith)
 
 append-requires : tie.Need-append-requires
 append-requires c κs = let p = facts (c .before .before .before .before .before .before .before .before .before .before .before .before) in (p .log .long, omega arith)
@@ -55,11 +52,10 @@ returns-4 c =
     let l = c .before .before .before .before .before .before .before in
     let t = l .before .before .before .before .before in
     let r = t .before .before in
-    let g = r .before .before .before in
-    note-0 _ _ _ _ (facts (g .before .before .before)) _ _ _ (rw (g .age-of .ensures) at (r .raised .ensures)) (t .if2 .left) _ _ (omega arith) refl (c .before .before .fill .ensures) (rw (g .age-of .ensures) at (l .append .ensures))
+    note-0 _ _ _ _ (facts (r .before .before .before .before .before .before)) _ _ _ (r .raised .ensures) (t .if2 .left) _ _ (omega arith) refl (c .before .before .fill .ensures) (l .append .ensures)
 
 pub note-spec : {M : Type 1} → statement M
 note-spec =
     tie.close
-    (tie.spec (search needs) (search needs) (search needs) (λ c. note-early _ _ _ _ _ (c .if1 .taken) (c .before .early .ensures)) sub-t14 add-t15 (search needs) (search needs) raised-requires
+    (tie.spec (search needs) (search needs) (search needs) (λ c. note-early _ _ _ _ _ (c .if1 .taken) (c .before .early .ensures)) sub-t15 add-t16 (search needs) raised-requires
     (search needs) (search needs) returns-2 count-requires (search needs) (search needs) returns-3 append-requires (search needs) fill-requires (search needs) (search needs) returns-4)
