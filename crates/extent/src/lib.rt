@@ -19,9 +19,11 @@ pub fn is_misplaced(e: Extent, image: u64) -> bool
     common::EOF < e.first + (e.len - 1)
 }
 
-// Tests whether a piece's number is 0, or above the highest.
+// Tests whether a piece's number or its pass is 0, or above the highest.
 pub fn is_misnumbered(e: Extent) -> bool
     ensures { λ r. ⌜ r ≡ misnumbered e ⌝ }
 {
-    (e.age.number.0 == 0) | (common::HIGHEST < e.age.number.0)
+    let number = e.age.number.0;
+    let pass = e.age.pass.0;
+    (number == 0) | (common::HIGHEST < number) | ((pass == 0) | (runs::HIGHEST_PASS < pass))
 }

@@ -1,6 +1,7 @@
 // The note-and-write path of one stripe: note, write, restart, compact.
 use common::Number;
 use runs::Age;
+use runs::Pass;
 use stripe::Extent;
 ghost use Rattle.stripe.specs.Piece.{extent, piece};
 ghost use Rattle.note.specs.Note.{Notes};
@@ -16,18 +17,20 @@ pub extern "C" fn gil_note(
     first: u64,
     len: u64,
     number: u64,
+    pass: u64,
     image: u64,
 ) -> u64
-    ensures { λ r. ⌜ Notes (now (map .entry)) (now (log .entry)) (extent first len number) image r (now (map .exit)) (now (log .exit)) ⌝ }
+    ensures { λ r. ⌜ Notes (now (map .entry)) (now (log .entry)) (extent first len number pass) image r (now (map .exit)) (now (log .exit)) ⌝ }
 {
     let age = Age {
         number: Number(number),
+        pass: Pass(pass),
     };
     let e = Extent { first, len, age };
     note::note(map, log, e, image)
 }
 
-// Stores the piece's bytes in the image where the map has the piece's number, and answers the refusal or 0.
+// Stores the piece's bytes in the image where the map has the piece's number and pass, and answers the refusal or 0.
 #[no_mangle]
 pub extern "C" fn gil_write(
     map: &[u8],
@@ -35,11 +38,13 @@ pub extern "C" fn gil_write(
     first: u64,
     bytes: &[u8],
     number: u64,
+    pass: u64,
 ) -> u64
-    ensures { λ r. ⌜ Writes (now (map .entry)) (piece first (now (bytes .entry)) number) (now (image .entry)) r (now (image .exit)) ⌝ }
+    ensures { λ r. ⌜ Writes (now (map .entry)) (piece first (now (bytes .entry)) number pass) (now (image .entry)) r (now (image .exit)) ⌝ }
 {
     let age = Age {
         number: Number(number),
+        pass: Pass(pass),
     };
     write::write(map, image, first, bytes, age)
 }

@@ -1,8 +1,8 @@
--- Valid runs by their greatest last byte and their least number: a sane age is a number at least 1.
+-- Valid runs by their greatest last byte, their least number and their least pass: a sane age has both at least 1.
 use Prim.Native.Nat.{ℕ, _≤_, _<_, min, max}
-use mathlib.Core.Path.{_≡_, refl}
+use mathlib.Core.Path.{_≡_, refl, _∙_, ap}
 use mathlib.Core.Logic.{⊎-elim}
-use mathlib.Core.Bool.{Bool, true, false, _&&_}
+use mathlib.Core.Bool.{Bool, true, false, _&&_, and-true, and-assoc}
 use native.Mathlib.Omega.{arith}
 use lib.Dec.{leb, ltb}
 use borrow.Author.Tests.{le-leb, lt-leb}
@@ -10,7 +10,7 @@ use Rattle.common.specs.Ranges.{eof}
 use Rattle.common.proofs.Bools.{and-false}
 use Rattle.common.proofs.Order.{below}
 use Rattle.runs.specs.declared.Run.{Run}
-use Rattle.runs.specs.Ages.{valueOf}
+use Rattle.runs.specs.Ages.{highestPass}
 use Rattle.runs.specs.Sound.{sane, valid}
 
 leb-max : (a b c : ℕ) → leb (max a b) c ≡ (leb a c && leb b c)
@@ -33,17 +33,25 @@ leb-min a b c =
     (below b c))
     (below a c)
 
-three : (a b c x y z : Bool) → (((a && x) && (b && y)) && (c && z)) ≡ (((a && b) && c) && ((x && y) && z))
-three false b c x y z = refl
-three true true true x y z = refl
-three true false c true y z = refl
-three true false c false y z = refl
-three true true false x y z = and-false (x && y)
+-- two pairs of tests, by first and by second
+crossed : (a b x y : Bool) → ((a && x) && (b && y)) ≡ ((a && b) && (x && y))
+crossed false b x y = refl
+crossed true true x y = refl
+crossed true false true y = refl
+crossed true false false y = refl
 
--- one run more
-pub tally : (rising : Bool) (last number last′ number′ : ℕ) (r : Run) → last′ ≡ max last (r .last) → number′ ≡ min number (r .age .number .0)
-    → (((rising && leb (r .first) (r .last)) && leb last′ eof) && ltb 0 number′) ≡ (((rising && leb last eof) && ltb 0 number) && valid r)
-unfolding sane valueOf
-tally rising last number last′ number′ r e f =
-    rw (e, f, leb-max last (r .last) eof, leb-min number (r .age .number .0) 1)
-    (three rising (leb last eof) (ltb 0 number) (leb (r .first) (r .last)) (leb (r .last) eof) (ltb 0 (r .age .number .0)))
+four : (a b c d x y z w : Bool) → ((((a && x) && (b && y)) && (c && z)) && (d && w)) ≡ ((((a && b) && c) && d) && ((x && y) && (z && w)))
+four a b c d x y z w =
+    ap (λ (t : Bool). (t && (c && z)) && (d && w)) (crossed a b x y)
+    ∙ ap (λ (t : Bool). t && (d && w)) (crossed (a && b) c (x && y) z)
+    ∙ crossed ((a && b) && c) d ((x && y) && z) w
+    ∙ ap (λ (t : Bool). (((a && b) && c) && d) && t) (and-assoc (x && y) z w)
+
+-- one run more, whose pass is read from its bytes
+pub tally : (rising : Bool) (last number pass last′ number′ pass′ : ℕ) (r : Run)
+    → last′ ≡ max last (r .last) → number′ ≡ min number (r .age .number .0) → pass′ ≡ min pass (r .age .pass .0) → r .age .pass .0 ≤ highestPass
+    → ((((rising && leb (r .first) (r .last)) && leb last′ eof) && ltb 0 number′) && ltb 0 pass′) ≡ ((((rising && leb last eof) && ltb 0 number) && ltb 0 pass) && valid r)
+unfolding sane
+tally rising last number pass last′ number′ pass′ r e f g h =
+    rw (e, f, g, leb-max last (r .last) eof, leb-min number (r .age .number .0) 1, leb-min pass (r .age .pass .0) 1, le-leb (r .age .pass .0) highestPass h, and-true (leb 1 (r .age .pass .0)))
+    (four rising (leb last eof) (ltb 0 number) (ltb 0 pass) (leb (r .first) (r .last)) (leb (r .last) eof) (ltb 0 (r .age .number .0)) (ltb 0 (r .age .pass .0)))

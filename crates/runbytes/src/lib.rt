@@ -1,6 +1,7 @@
 // Runs in bytes: reads and stores one, and tests maps and logs.
 use common::Number;
 use runs::Age;
+use runs::Pass;
 use runs::Run;
 ghost use mathlib.Core.Path.{_≡_};
 ghost use mathlib.Core.Bool.{true};
@@ -9,6 +10,7 @@ ghost use lib.ListN.{length};
 ghost use Rattle.common.specs.Counters.{width};
 ghost use Rattle.xdr.specs.Be.{be, putBe};
 ghost use Rattle.xdr.specs.Layout.{putFields};
+ghost use Rattle.runs.specs.Ages.{highestPass};
 ghost use Rattle.runs.specs.Sound.{maxEntries, allValid, leads, apart};
 ghost use Rattle.runs.specs.Valid.{Valid};
 ghost use Rattle.runs.specs.Bytes.{runLayout, runFields, logSize, runsOf, runPlace, runsEnd, soundMapBytes, soundLogBytes, appended};
@@ -19,12 +21,14 @@ pub const MAX_RUNS: usize = 1024;
 
 pub const MAX_ENTRIES: usize = 2048;
 
-// A run's bytes: its first byte, then its last, then its age.
+// A run's bytes: its first byte, then its last, then its number, then its pass.
 const LAST: usize = 8;
 
-const AGE: usize = LAST + 8;
+const NUMBER: usize = LAST + 8;
 
-const RUN_BYTES: usize = AGE + common::COUNTER_BYTES;
+const PASS: usize = NUMBER + common::COUNTER_BYTES;
+
+const RUN_BYTES: usize = PASS + 4;
 
 // The bytes of a map and of a log: the count, and then the runs.
 const COUNT_BYTES: usize = 4;
@@ -73,13 +77,22 @@ pub fn last_at(s: &[u8], i: usize) -> u64
     xdr::u64_at(s, place(i) + LAST)
 }
 
+// Reads the pass of the run at place i.
+fn pass_at(s: &[u8], i: usize) -> u64
+    requires { ⌜ runPlace width (i + 1) ≤ length (now s) ⌝ }
+    ensures { λ r. ⌜ (r ≡ runAt (now (s .entry)) i .age .pass .0) × (r ≤ highestPass) ⌝ }
+{
+    xdr::u32_at(s, place(i) + PASS)
+}
+
 // Reads the age of the run at place i.
 pub fn age_at(s: &[u8], i: usize) -> Age
     requires { ⌜ runPlace width (i + 1) ≤ length (now s) ⌝ }
     ensures { λ r. ⌜ r ≡ runAt (now (s .entry)) i .age ⌝ }
 {
     Age {
-        number: Number(common::counter_at(s, place(i) + AGE)),
+        number: Number(common::counter_at(s, place(i) + NUMBER)),
+        pass: Pass(pass_at(s, i)),
     }
 }
 
@@ -103,7 +116,8 @@ pub fn put_run(s: &mut [u8], k: usize, r: Run)
     let at = place(k);
     xdr::put_u64(s, at, r.first);
     xdr::put_u64(s, at + LAST, r.last);
-    common::put_counter(s, at + AGE, r.age.number.0);
+    common::put_counter(s, at + NUMBER, r.age.number.0);
+    xdr::put_u32(s, at + PASS, r.age.pass.0);
 }
 
 // Appends an entry to a log that has room: its bytes, and then the count.
@@ -116,7 +130,8 @@ pub fn append(log: &mut [u8], r: Run)
     put_count(log, n + 1);
 }
 
-// Tests that every run is valid: none falls, the greatest last byte is not past EOF, and the least number is at least 1.
+// Tests that every run is valid: none falls, the greatest last byte is not past EOF, and the least number and the least pass are
+// at least 1.
 fn all_valid(s: &[u8]) -> bool
     requires { ⌜ runsEnd width (now s) ≤ length (now s) ⌝ }
     ensures { λ r. ⌜ r ≡ allValid (runsOf width (now (s .entry))) ⌝ }
@@ -125,15 +140,17 @@ fn all_valid(s: &[u8]) -> bool
     let mut rising = true;
     let mut last: u64 = 0;
     let mut number: u64 = 1;
+    let mut pass: u64 = 1;
     let mut i: usize = 0;
     while i < n {
         let r = run_at(s, i);
         rising = rising & (r.first <= r.last);
         last = common::greater(last, r.last);
         number = common::lesser(number, r.age.number.0);
+        pass = common::lesser(pass, pass_at(s, i));
         i += 1;
     }
-    rising & (last <= common::EOF) & (0 < number)
+    rising & (last <= common::EOF) & (0 < number) & (0 < pass)
 }
 
 // Tests that a run ends before the next starts, and that they differ where they touch.

@@ -19,11 +19,12 @@ use Rattle.xdr.proofs.Numbers.{be-lt}
 use Rattle.xdr.proofs.Tabs.{length-tab}
 use Rattle.xdr.proofs.Arrays.{array-put, put-array-length, put-array-other}
 use Rattle.runs.specs.declared.Run.{Run}
+use Rattle.runs.specs.Ages.{passWidth}
 use Rattle.runs.specs.Owner.{ageOf, owner}
 use Rattle.runs.specs.Sound.{allValid, soundMap}
 use Rattle.runs.specs.Valid.{Valid}
 use Rattle.runs.specs.Bytes.{runLayout, runOf, runFields, runsOf, mapSize, runPlace, runsEnd, soundMapBytes, bytesOf, mapBytes}
-use Rattle.runs.proofs.Ages.{highestAge, age-fits, fits-age}
+use Rattle.runs.proofs.Ages.{highestAge, age-fits, fits-age, sane-is}
 use Rattle.runs.proofs.Over.{over-is}
 use Rattle.runs.proofs.Canon.{Canon, none, next, canon-head}
 use Rattle.runs.proofs.Valid.{valid-head, valid-rest}
@@ -31,7 +32,7 @@ use Rattle.runs.proofs.Sound.{sound-is, sound-canon}
 
 -- A valid run fits its fields if its age does
 pub run-fits : (r : Run) → Valid r → ageOf r ≤ highestAge → Fit (runLayout width) (runFields r)
-run-fits r v h = let a = age-fits (r .age) h in (omega arith, (omega arith, (omega arith, tt)))
+run-fits r v h = let a = age-fits (r .age) h in let s = sane-is (r .age) (v .some) in (omega arith, (omega arith, (omega arith, (omega arith, tt))))
 
 -- Of canonical runs each has the age of its first byte
 runs-fit : {p q : ℕ} {rs : List Run} → Canon p q rs → allValid rs ≡ true → ((b : ℕ) → owner rs b ≤ highestAge) → Fits (runLayout width) (map runFields rs)
@@ -108,4 +109,6 @@ owner-tab (suc n) f h b =
 pub owner-small : (s : List ℕ) → Bytes s → (b : ℕ) → owner (runsOf width s) b ≤ highestAge
 unfolding runsOf array fields
 owner-small s h b =
-    owner-tab (be 4 s 0) (λ i. fields (runLayout width) s (runPlace width i) 0) (λ i. fits-age _ (let l = be-lt width s (runPlace width i + (0 + 8 + 8)) h in omega arith)) b
+    owner-tab (be 4 s 0) (λ i. fields (runLayout width) s (runPlace width i) 0) (λ i. fits-age _
+    (let l = be-lt width s (runPlace width i + (0 + 8 + 8)) h in omega arith)
+    (let l = be-lt passWidth s (runPlace width i + (0 + 8 + 8 + width)) h in omega arith)) b

@@ -11,22 +11,23 @@ use Rattle.xdr.specs.Be.{be, putBe}
 use Rattle.xdr.specs.Layout.{putFields, size}
 use Rattle.xdr.specs.Array.{array, putArray, arraySize, element}
 use Rattle.runs.specs.declared.Run.{Run}
+use Rattle.runs.specs.Ages.{pass, passWidth}
 use Rattle.runs.specs.Sound.{maxRuns, maxEntries, soundMap, soundLog}
 
--- "runs (first, last, number: 20 bytes)"; "entries shaped as runs"
+-- "runs (first, last, number: ..)"; "entries shaped as runs"; "a 4-byte pass, at least 1, after the number"
 abbrev pub runLayout : ℕ → List ℕ
-runLayout w = 8 ∷ 8 ∷ w ∷ []
+runLayout w = 8 ∷ 8 ∷ w ∷ passWidth ∷ []
 
 abbrev pub runOf : List ℕ → Run
-runOf fs = record { first = getD fs 0 0; last = getD fs 1 0; age = record { number = number (getD fs 2 0) } }
+runOf fs = record { first = getD fs 0 0; last = getD fs 1 0; age = record { number = number (getD fs 2 0); pass = pass (getD fs 3 0) } }
 
 abbrev pub runFields : Run → List ℕ
-runFields r = r .first ∷ r .last ∷ r .age .number .0 ∷ []
+runFields r = r .first ∷ r .last ∷ r .age .number .0 ∷ r .age .pass .0 ∷ []
 
 unfoldable pub runsOf : ℕ → List ℕ → List Run
 runsOf w s = map runOf (array (runLayout w) s 0)
 
--- "Map, exactly 20,484 bytes"; "Log, exactly 40,964 bytes"
+-- "the map has 24,580 bytes and the log 49,156"
 abbrev pub mapSize : ℕ → ℕ
 mapSize w = arraySize maxRuns (runLayout w)
 
@@ -60,15 +61,15 @@ mapBytes w rs = bytesOf w (mapSize w) rs
 unfoldable pub logBytes : ℕ → List Run → List ℕ
 logBytes w es = bytesOf w (logSize w) es
 
--- A log with one entry more: "the log changes only in the new entry's 20 bytes and the count"
+-- A log with one entry more: "the log changes only in the new entry's .. bytes and the count"
 unfoldable pub appended : ℕ → List ℕ → Run → List ℕ
 appended w log r = putBe 4 (putFields (runLayout w) log (runsEnd w log) 0 (runFields r)) 0 (be 4 log 0 + 1)
 
-pub run-size : size (runLayout 4) ≡ 20
+pub run-size : size (runLayout 4) ≡ 24
 run-size = refl
 
-pub map-size : mapSize 4 ≡ 20484
+pub map-size : mapSize 4 ≡ 24580
 map-size = refl
 
-pub log-size : logSize 4 ≡ 40964
+pub log-size : logSize 4 ≡ 49156
 log-size = refl

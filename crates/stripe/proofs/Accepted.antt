@@ -7,22 +7,23 @@ use mathlib.Core.List.{List}
 use native.Mathlib.Omega.{arith}
 use lib.Dec.{T}
 use lib.ListN.{length}
-use borrow.Author.Tests.{ltb-false, leb-false, lt-ltb, le-ltb, not-false}
+use borrow.Author.Tests.{ltb-false, leb-false, lt-ltb, le-ltb, le-leb, not-false}
+use Rattle.common.specs.Counters.{width, highest}
 use Rattle.common.specs.Ranges.{eof}
 use Rattle.common.specs.Refusals.{Rule, firstHit}
 use Rattle.common.proofs.Bools.{and-l, and-r, or-left, or-right, undo, true-is, false-is}
 use Rattle.common.proofs.Order.{below, not-zero, eq→eqb}
 use Rattle.common.proofs.Refusals.{counted, kept, unbroken}
 use Rattle.runs.specs.declared.Run.{Run}
-use Rattle.runs.specs.Ages.{valueOf, Exact}
+use Rattle.runs.specs.Ages.{highestPass, Exact}
 use Rattle.runs.specs.Owner.{ageOf, owner}
 use Rattle.runs.specs.Map.{raise, mapOf}
 use Rattle.runs.specs.Sound.{maxRuns, maxEntries, sane}
-use Rattle.runs.proofs.Ages.{highestAge, sane-pos, sane-exact}
+use Rattle.runs.proofs.Ages.{highestAge, fits-age, sane-pos, sane-exact}
 use Rattle.runs.specs.Valid.{Valid}
 use Rattle.stripe.specs.declared.Extent.{Extent}
 use Rattle.stripe.specs.Piece.{place}
-use Rattle.stripe.specs.Refusals.{misplaced, misnumbered, behind, noteRules, writeRules, restartRules, compactRules}
+use Rattle.stripe.specs.Refusals.{misplaced, uncounted, misnumbered, behind, noteRules, writeRules, restartRules, compactRules}
 
 -- Refusal 14
 pub record Placed (e : Extent) (image : ℕ) : Type 0 where
@@ -38,11 +39,21 @@ pub record Numbered (e : Extent) : Type 0 where
   pub sane : sane (place e .age) ≡ true
   pub fits : ageOf (place e) ≤ highestAge
 
+counted-least : (most n : ℕ) → uncounted most n ≡ false → 0 < n
+counted-least most n h = search (or-left, not-zero)
+
+counted-most : (most n : ℕ) → uncounted most n ≡ false → n ≤ most
+counted-most most n h = search (or-right, ltb-false)
+
 pub numbered : (e : Extent) → misnumbered e ≡ false → Numbered e
-unfolding sane valueOf
+unfolding sane
 numbered e h =
-    let p : 0 < e .age .number .0 = search (or-left, or-right, not-zero) in
-    record { sane = lt-ltb 0 (e .age .number .0) p; fits = search (or-left, or-right, ltb-false) }
+    let n : uncounted (highest width) (e .age .number .0) ≡ false = or-left (uncounted (highest width) (e .age .number .0)) (uncounted highestPass (e .age .pass .0)) h in
+    let p : uncounted highestPass (e .age .pass .0) ≡ false = or-right (uncounted (highest width) (e .age .number .0)) (uncounted highestPass (e .age .pass .0)) h in
+    let a = counted-least (highest width) (e .age .number .0) n in
+    let b = counted-least highestPass (e .age .pass .0) p in
+    let c = counted-most highestPass (e .age .pass .0) p in
+    record { sane = rw (lt-ltb 0 (e .age .number .0) a, lt-ltb 0 (e .age .pass .0) b, le-leb (e .age .pass .0) highestPass c); fits = fits-age (e .age) (counted-most (highest width) (e .age .number .0) n) c }
 
 pub numbered-pos : (e : Extent) → Numbered e → 0 < ageOf (place e)
 numbered-pos e n = sane-pos (place e .age) (n .sane)

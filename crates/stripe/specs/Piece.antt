@@ -4,27 +4,29 @@ use mathlib.Core.List.{List}
 use lib.ListN.{length}
 use Rattle.common.specs.Counters.{number}
 use Rattle.runs.specs.declared.Run.{Run}
+use Rattle.runs.specs.Ages.{pass}
 use Rattle.stripe.specs.declared.Extent.{Extent}
 
--- What is told of a piece: "the piece's first byte, length, number"
-abbrev pub extent : ℕ → ℕ → ℕ → Extent
-extent first len n = record { first = first; len = len; age = record { number = number n } }
+-- What is told of a piece: "the piece's first byte, length, number", and its pass
+abbrev pub extent : ℕ → ℕ → ℕ → ℕ → Extent
+extent first len n p = record { first = first; len = len; age = record { number = number n; pass = pass p } }
 
 -- Its place: its bytes from the first on, at its age
 abbrev pub place : Extent → Run
 place e = record { first = e .first; last = pred (e .first + e .len); age = e .age }
 
--- A piece: its first byte, its bytes and its number. Two pieces with all three alike are one piece
+-- A piece: its first byte, its bytes, its number and its pass. Two pieces with all four alike are one piece
 pub record Piece : Type 0 where
   pub first : ℕ
   pub bytes : List ℕ
   pub number : ℕ
+  pub pass : ℕ
 
-abbrev pub piece : ℕ → List ℕ → ℕ → Piece
-piece first bytes number = record { first = first; bytes = bytes; number = number }
+abbrev pub piece : ℕ → List ℕ → ℕ → ℕ → Piece
+piece first bytes number pass = record { first = first; bytes = bytes; number = number; pass = pass }
 
 abbrev pub extentOf : Piece → Extent
-extentOf p = extent (p .first) (length (p .bytes)) (p .number)
+extentOf p = extent (p .first) (length (p .bytes)) (p .number) (p .pass)
 
 abbrev pub placeOf : Piece → Run
 placeOf p = place (extentOf p)

@@ -1,5 +1,5 @@
--- What note, write, restart and compaction refuse: document 01, "Refusal numbers", 12 to 18, and document 02, #102; each list in the order in which
--- it is judged.
+-- What note, write, restart and compaction refuse: document 01, "Refusal numbers", 12 to 18, and document 02, #102 and #103; each list in the order in
+-- which it is judged.
 use Prim.Native.Nat.{ℕ, zero, suc, pred, _+_}
 use mathlib.Core.Bool.{Bool, false, not, _||_}
 use mathlib.Core.List.{List, [], _∷_}
@@ -9,6 +9,7 @@ use Rattle.common.specs.Counters.{width, highest}
 use Rattle.common.specs.Ranges.{eof}
 use Rattle.common.specs.Refusals.{Rule, rule}
 use Rattle.runs.specs.declared.Run.{Run}
+use Rattle.runs.specs.Ages.{highestPass}
 use Rattle.runs.specs.Owner.{ageOf, owner}
 use Rattle.runs.specs.Map.{raise, mapOf}
 use Rattle.runs.specs.Sound.{maxRuns, maxEntries}
@@ -19,11 +20,14 @@ use Rattle.stripe.specs.Piece.{place}
 abbrev pub misplaced : Extent → ℕ → Bool
 misplaced e image = eqb (e .len) 0 || (ltb image (e .first + e .len) || ltb eof (pred (e .first + e .len)))
 
--- 15: "number 0 or above 4,294,967,295"
-abbrev pub misnumbered : Extent → Bool
-misnumbered e = eqb (e .age .number .0) 0 || ltb (highest width) (e .age .number .0)
+-- 15: "number 0 or above 4,294,967,295", "also for pass 0 or above 4,294,967,295"
+abbrev pub uncounted : ℕ → ℕ → Bool
+uncounted most n = eqb n 0 || ltb most n
 
--- 18: "some byte of the piece has a smaller number in the map": one of the `len` bytes from b on
+abbrev pub misnumbered : Extent → Bool
+misnumbered e = uncounted (highest width) (e .age .number .0) || uncounted highestPass (e .age .pass .0)
+
+-- 18: "some byte of the piece has a smaller number in the map", "given where the map's pair is smaller": one of the `len` bytes from b on
 unfoldable pub behind : List Run → ℕ → ℕ → ℕ → Bool
 behind map age b zero = false
 behind map age b (suc len) = ltb (owner map b) age || behind map age (suc b) len

@@ -1,4 +1,4 @@
--- Note, write and restart: document 01, "Note, write, restart".
+-- Note, write and restart: document 01, "Note, write, restart"; by document 02, #103, its rules "read pair for number".
 use Prim.Native.Nat.{ℕ, suc}
 use mathlib.Core.Bool.{true, cond}
 use mathlib.Core.List.{List, [], _∷_, _++_}
@@ -35,7 +35,8 @@ noted s r = record { map = raise r (s .map); log = s .log ++ r ∷ []; image = s
 unfoldable pub note : Stripe → Extent → Outcome
 note s e = answer (firstHit (noteRules (soundMap (s .map)) (soundLog (s .log)) (s .map) (s .log) e (length (s .image)))) s (noted s (place e))
 
--- Write "stores the piece's byte exactly where the map's number equals the piece's". The image from the byte b on, with the piece's bytes so stored
+-- Write "stores the piece's byte exactly where the map's number equals the piece's", "at equal pairs". The image from the byte b on, with the
+-- piece's bytes so stored
 unfoldable pub stored : List Run → ℕ → ℕ → List ℕ → List ℕ → List ℕ
 stored map age b piece [] = []
 stored map age b [] (x ∷ xs) = x ∷ xs

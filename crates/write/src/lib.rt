@@ -26,7 +26,7 @@ fn refusal(map: &[u8], e: Extent, image: u64) -> u64
 
 // Stores a piece's bytes in the image where the map has the piece's age, and answers the refusal or 0.
 pub fn write(map: &[u8], image: &mut [u8], first: u64, bytes: &[u8], age: Age) -> u64
-    ensures { λ r. ⌜ Writes (now (map .entry)) (piece first (now (bytes .entry)) (age .number .0)) (now (image .entry)) r (now (image .exit)) ⌝ }
+    ensures { λ r. ⌜ Writes (now (map .entry)) (piece first (now (bytes .entry)) (age .number .0) (age .pass .0)) (now (image .entry)) r (now (image .exit)) ⌝ }
 {
     let e = Extent {
         first,

@@ -1,4 +1,4 @@
--- `put_run`: its three stores are those of the layout.
+-- `put_run`: its four stores are those of the layout.
 use native.Mathlib.Nat.{add-zero}
 use borrow.Author.Needs.{needs}
 use Rattle.xdr.specs.Layout.{putFields}
@@ -8,10 +8,11 @@ use Rattle.runbytes.proofs.put_run.Tie as tie
 returns : tie.Need-returns
 unfolding putFields
 returns c =
-    let c3 = c .before .before in
+    let c4 = c .before .before in
+    let c3 = c4 .before .before .before .before in
     let c2 = c3 .before .before .before .before in
     let c1 = c2 .before .before .before .before in
-    rw (c3 .put-counter .ensures, c2 .put-u642 .ensures, c1 .put-u64 .ensures, c1 .before .before .place .ensures, add-zero)
+    rw (c4 .put-u32 .ensures, c3 .put-counter .ensures, c2 .put-u642 .ensures, c1 .put-u64 .ensures, c1 .before .before .place .ensures, add-zero)
 
 pub put-run-spec : {M : Type 1} → statement M
-put-run-spec = tie.close (tie.spec (λ c κs. search needs) (search needs) (search needs) (search needs) (search needs) (search needs) (search needs) returns)
+put-run-spec = tie.close (tie.spec (λ c κs. search needs) (search needs) (search needs) (search needs) (search needs) (search needs) (search needs) (search needs) (search needs) returns)

@@ -1,12 +1,7 @@
--- `is_none`: the test is of the age's ℕ.
-use mathlib.Core.Path.{refl}
-use Rattle.runs.specs.Ages.{valueOf}
+-- `is_none`: both numbers are 0 where the ℕ is.
+use Rattle.runs.proofs.Ages.{none-pair}
 use Rattle.runs.proofs.is_none.Statement.{statement}
 use Rattle.runs.proofs.is_none.Tie as tie
 
-returns : tie.Need-returns
-unfolding valueOf
-returns c = refl
-
 pub is-none-spec : {M : Type 1} → statement M
-is-none-spec = tie.close (tie.spec returns)
+is-none-spec = tie.close (tie.spec (λ c. search none-pair))

@@ -1,12 +1,7 @@
--- `same`: the test is of the ages' ℕ.
-use mathlib.Core.Path.{refl}
-use Rattle.runs.specs.Ages.{valueOf}
+-- `same`: two ages are one where number and pass are.
+use Rattle.runs.proofs.Ages.{same-pair}
 use Rattle.runs.proofs.same.Statement.{statement}
 use Rattle.runs.proofs.same.Tie as tie
 
-returns : tie.Need-returns
-unfolding valueOf
-returns c = refl
-
 pub same-spec : {M : Type 1} → statement M
-same-spec = tie.close (tie.spec returns)
+same-spec = tie.close (tie.spec (λ c. search same-pair))

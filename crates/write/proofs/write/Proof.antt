@@ -13,32 +13,32 @@ use Rattle.write.proofs.write.Tie as tie
 returns : tie.Need-returns
 returns c =
     let a = c .before .before .before .before .before .args in
-    write-refused (now (a .map)) (piece (a .first) (now (a .bytes)) (a .age .number .0)) (now (a .image)) _ (c .before .refusal .ensures) (c .if1 .taken)
+    write-refused (now (a .map)) (piece (a .first) (now (a .bytes)) (a .age .number .0) (a .age .pass .0)) (now (a .image)) _ (c .before .refusal .ensures) (c .if1 .taken)
 
 returns-2 : tie.Need-returns-2
 returns-2 c =
     let t = c .before .before .before .before in
     let a = t .before .before .before .before .before .args in
-    write-accepted (now (a .map)) (piece (a .first) (now (a .bytes)) (a .age .number .0)) (now (a .image)) _ (t .before .refusal .ensures) (t .if1 .left) _ _
+    write-accepted (now (a .map)) (piece (a .first) (now (a .bytes)) (a .age .number .0) (a .age .pass .0)) (now (a .image)) _ (t .before .refusal .ensures) (t .if1 .left) _ _
     (add-sub-cancel-left (a .first) (length (now (a .bytes)))) (c .before .before .store .ensures)
 
 add-end : tie.Need-add-end
 add-end c =
     let a = c .before .before .before .before .before .args in
-    let f = write-unrefused (now (a .map)) (piece (a .first) (now (a .bytes)) (a .age .number .0)) (now (a .image)) _ (c .before .refusal .ensures) (c .if1 .left) in
+    let f = write-unrefused (now (a .map)) (piece (a .first) (now (a .bytes)) (a .age .number .0) (a .age .pass .0)) (now (a .image)) _ (c .before .refusal .ensures) (c .if1 .left) in
     omega arith
 
 part-store-end : tie.Need-part-store-end
 part-store-end c =
     let a = c .before .before .before .before .before .args in
-    let f = write-unrefused (now (a .map)) (piece (a .first) (now (a .bytes)) (a .age .number .0)) (now (a .image)) _ (c .before .refusal .ensures) (c .if1 .left) in
+    let f = write-unrefused (now (a .map)) (piece (a .first) (now (a .bytes)) (a .age .number .0) (a .age .pass .0)) (now (a .image)) _ (c .before .refusal .ensures) (c .if1 .left) in
     omega arith
 
 store-requires : tie.Need-store-requires
 store-requires c κs =
     let t = c .before in
     let a = t .before .before .before .before .before .args in
-    let p = piece (a .first) (now (a .bytes)) (a .age .number .0) in
+    let p = piece (a .first) (now (a .bytes)) (a .age .number .0) (a .age .pass .0) in
     let f = write-unrefused (now (a .map)) p (now (a .image)) _ (t .before .refusal .ensures) (t .if1 .left) in
     (f .mapped, numbered-pos (extentOf p) (f .numbered), numbered-exact (extentOf p) (f .numbered), simp (length-take, length-drop) (omega arith))
 
