@@ -46,7 +46,10 @@ piece-same p q =
     ⊎-elim
     (λ (u : p .first ≡ q .first). ⊎-elim
     (λ (v : p .bytes ≡ q .bytes). ⊎-elim
-    (λ (w : p .number ≡ q .number). inl (λ i. record { first = u i; bytes = v i; number = w i }))
+    (λ (w : p .number ≡ q .number). ⊎-elim
+    (λ (x : p .pass ≡ q .pass). inl (λ i. record { first = u i; bytes = v i; number = w i; pass = x i }))
+    (λ (x : p .pass ≡ q .pass → ⊥). inr (λ e. x (ap (λ (y : Piece). y .pass) e)))
+    (same (p .pass) (q .pass)))
     (λ (w : p .number ≡ q .number → ⊥). inr (λ e. w (ap (λ (x : Piece). x .number) e)))
     (same (p .number) (q .number)))
     (λ (v : p .bytes ≡ q .bytes → ⊥). inr (λ e. v (ap (λ (x : Piece). x .bytes) e)))

@@ -118,18 +118,18 @@ reached list =
     also listing (replicate 65 noItem) (tableBytes empty) list-buffer tt (table-bytes empty) (blank-bytes (listEventsSize width)) (too-many empty empty-sound (replicate 65 noItem) (omega arith))
     also tt
 reached note =
-    noting [] [] (extent 0 1 1) 1 tt no-bytes no-bytes note-12
-    also noting map0 [] (extent 0 1 1) 1 tt map0-bytes no-bytes note-13
-    also noting map0 log0 (extent 0 0 1) 1 tt map0-bytes log0-bytes note-14
-    also noting map0 log0 (extent 0 1 0) 1 tt map0-bytes log0-bytes note-15
-    also noting (mapBytes width (spaced 1 1024)) log0 (extent 2049 1 1) 2050 tt (map-bytes (spaced 1 1024)) log0-bytes note-16
-    also noting map0 (logBytes width (replicate maxEntries one)) (extent 0 1 1) 1 tt map0-bytes (log-bytes (replicate maxEntries one)) note-17
+    noting [] [] (extent 0 1 1 1) 1 tt no-bytes no-bytes note-12
+    also noting map0 [] (extent 0 1 1 1) 1 tt map0-bytes no-bytes note-13
+    also noting map0 log0 (extent 0 0 1 1) 1 tt map0-bytes log0-bytes note-14
+    also noting map0 log0 (extent 0 1 0 1) 1 tt map0-bytes log0-bytes note-15
+    also noting (mapBytes width (spaced 1 1024)) log0 (extent 2049 1 1 1) 2050 tt (map-bytes (spaced 1 1024)) log0-bytes note-16
+    also noting map0 (logBytes width (replicate maxEntries one)) (extent 0 1 1 1) 1 tt map0-bytes (log-bytes (replicate maxEntries one)) note-17
     also tt
 reached write =
-    writing [] (piece 0 (0 ∷ []) 1) (0 ∷ []) tt no-bytes (blank-bytes 1) (blank-bytes 1) write-12
-    also writing map0 (piece 0 [] 1) (0 ∷ []) tt map0-bytes no-bytes (blank-bytes 1) write-14
-    also writing map0 (piece 0 (0 ∷ []) 0) (0 ∷ []) tt map0-bytes (blank-bytes 1) (blank-bytes 1) write-15
-    also writing map0 (piece 0 (0 ∷ []) 1) (0 ∷ []) tt map0-bytes (blank-bytes 1) (blank-bytes 1) write-18
+    writing [] (piece 0 (0 ∷ []) 1 1) (0 ∷ []) tt no-bytes (blank-bytes 1) (blank-bytes 1) write-12
+    also writing map0 (piece 0 [] 1 1) (0 ∷ []) tt map0-bytes no-bytes (blank-bytes 1) write-14
+    also writing map0 (piece 0 (0 ∷ []) 1 0) (0 ∷ []) tt map0-bytes (blank-bytes 1) (blank-bytes 1) write-15
+    also writing map0 (piece 0 (0 ∷ []) 1 1) (0 ∷ []) tt map0-bytes (blank-bytes 1) (blank-bytes 1) write-18
     also tt
 reached restart =
     restarting [] [] no-bytes no-bytes restart-12

@@ -1,4 +1,4 @@
--- Demand 3, proved over the outcomes that the entries' contracts cite.
+-- Demand 3, proved over the outcomes that the entries' contracts cite. Pieces are followed by their ages; at the end an age is a pair.
 use Prim.Native.Nat.{ℕ, _≤_, max}
 use native.Mathlib.Omega.{arith}
 use mathlib.Core.Path.{_≡_, refl, sym, _∙_, ap, subst}
@@ -18,7 +18,8 @@ use Rattle.promises.specs.Demand3.{HasWrite, Finished, Demand3, LogsMap,
 use Rattle.promises.proofs.Carried.{entriesOf, IsMap, Carried, carried, begin-carried, restarts, compacts}
 use Rattle.promises.proofs.Views.{covered, given, given-in, given-out, View, quiet, new, wrote, turned, view}
 use Rattle.promises.proofs.Byte.{Start, finished-drop, has-right, step}
-use Rattle.promises.proofs.Pieces.{greatest}
+use Rattle.promises.proofs.Pieces.{latest}
+use Rattle.promises.proofs.Pairs.{Held, age-same, at-most, most-at, noted-held, accepted-held}
 
 -- the greatest age that pieces give a byte
 top : List Piece → ℕ → ℕ
@@ -86,11 +87,15 @@ demand3 log image es empty agree sent finished =
     let s : Stripe = begin log image in
     let g : Carried s = begin-carried log image empty in
     let z : (b : ℕ) → owner (entriesOf s) b ≡ 0 = λ b. ap (λ (rs : List Run). owner rs b) (none-counted log (empty .1)) in
+    let held : (q : Piece) → Among q (noted s es) → Held q = noted-held es s in
     record {
-      some = greatest (noted s es);
+      some = λ b p m c.
+          let L = latest (noted s es) b p m c in
+          (L .0, (L .1 .0, L .1 .1, (λ q n k. most-at q (L .0) (held q n) (held (L .0) (L .1 .0)) (L .1 .2 q n k))));
       under = λ b p G.
-          under es s b (ageOf p) (byteOf p b) g (omega (arith, z b)) (top-most (noted s es) b (ageOf p) (G .2)) finished
-          (λ q h k a. agree q p h (sent p (G .0)) a b k (G .1))
+          under es s b (ageOf p) (byteOf p b) g (omega (arith, z b))
+          (top-most (noted s es) b (ageOf p) (λ q n k. at-most q p (held q n) (held p (G .0)) (G .2 q n k))) finished
+          (λ q h k a. agree q p h (sent p (G .0)) (age-same q p (accepted-held es s q h) (held p (G .0)) a) b k (G .1))
           (inr (p, sent p (G .0), G .1, refl));
       other = λ b h. other es s b g (omega (arith, z b)) (top-most (noted s es) b 0 (λ q m c. absurd (h q m c)));
       long = long es s g;

@@ -100,10 +100,10 @@ pub follows : (cs : List Call) (m log image : List ℕ) → Carried (stripe m lo
 unfolding next afterNote afterWrite
 follows [] m log image C = record { answers = refl; stripe = refl }
 follows (noting w ∷ cs) m log image C =
-    let p : Piece = piece (w .first) (replicate (w .len) 0) (w .age .number .0) in
+    let p : Piece = piece (w .first) (replicate (w .len) 0) (w .age .number .0) (w .age .pass .0) in
     let F = follows cs (noteMap m log (extentOf p) (length image)) (noteLog m log (extentOf p) (length image)) image (carried (stripe m log image) (run.note p) C) in
     let e : decoded (next (stripe m log image) (run.note p)) ≡ note (decoded (stripe m log image)) w .stripe =
-    note-stripe m log image C p ∙ ap (λ (j : ℕ). note (decoded (stripe m log image)) (extent (w .first) j (w .age .number .0)) .stripe) (length-replicate {A = ℕ} (w .len) 0) in
+    note-stripe m log image C p ∙ ap (λ (j : ℕ). note (decoded (stripe m log image)) (extent (w .first) j (w .age .number .0) (w .age .pass .0)) .stripe) (length-replicate {A = ℕ} (w .len) 0) in
     record {
       answers = ap₂ (λ (a : ℕ) (l : List ℕ). a ∷ l) (note-answer m log image C w) (F .answers ∙ ap (λ (y : rules.Stripe). examples.answers y cs) e);
       stripe = F .stripe ∙ ap (λ (y : rules.Stripe). examples.afterCalls y cs) e;

@@ -17,6 +17,7 @@ pub mod Views
 pub mod Byte
 pub mod Followed
 pub mod Pieces
+pub mod Pairs
 pub mod Demand3
 pub mod Room
 pub mod Seam

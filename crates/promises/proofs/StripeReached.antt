@@ -36,29 +36,29 @@ map0 = replicate (mapSize width) 0
 abbrev pub log0 : List ℕ
 log0 = replicate (logSize width) 0
 
-pub note-12 : noteAnswer [] [] (extent 0 1 1) 1 ≡ 12
+pub note-12 : noteAnswer [] [] (extent 0 1 1 1) 1 ≡ 12
 unfolding noteAnswer soundMapBytes
 note-12 = refl
 
-pub note-13 : noteAnswer map0 [] (extent 0 1 1) 1 ≡ 13
+pub note-13 : noteAnswer map0 [] (extent 0 1 1 1) 1 ≡ 13
 unfolding noteAnswer soundLogBytes
 note-13 = rw empty-map
 
-pub note-14 : noteAnswer map0 log0 (extent 0 0 1) 1 ≡ 14
+pub note-14 : noteAnswer map0 log0 (extent 0 0 1 1) 1 ≡ 14
 unfolding noteAnswer
 note-14 = rw (empty-map, empty-log)
 
-pub note-15 : noteAnswer map0 log0 (extent 0 1 0) 1 ≡ 15
+pub note-15 : noteAnswer map0 log0 (extent 0 1 0 1) 1 ≡ 15
 unfolding noteAnswer
 note-15 = rw (empty-map, empty-log)
 
 -- 16 by a piece beside 1,024 runs
-pub note-16 : noteAnswer (mapBytes width (spaced 1 1024)) log0 (extent 2049 1 1) 2050 ≡ 16
+pub note-16 : noteAnswer (mapBytes width (spaced 1 1024)) log0 (extent 2049 1 1 1) 2050 ≡ 16
 unfolding noteAnswer age
 note-16 =
     let s = spaced-sound 1024 (omega arith) in
     let h = spaced-small 1 1024 in
-    let e : length (raise (place (extent 2049 1 1)) (spaced 1 1024)) ≡ 1025 = ap length (spaced-raised 1024) ∙ spaced-length 1 1025 in
+    let e : length (raise (place (extent 2049 1 1 1)) (spaced 1 1024)) ≡ 1025 = ap length (spaced-raised 1024) ∙ spaced-length 1 1025 in
     rw (map-back-sound (spaced 1 1024) s h, empty-log, map-back (spaced 1 1024) s h, e)
 
 -- 17 by a log of 2,048 entries, all alike
@@ -76,30 +76,30 @@ ones-fit : (n : ℕ) → Fits (runLayout width) (map runFields (replicate n one)
 ones-fit zero = tt
 ones-fit (suc n) = (run-fits one one-valid (omega (arith, age-run 0 0 oldest)), ones-fit n)
 
-full : (n : ℕ) → n ≡ maxEntries → noteAnswer map0 (logBytes width (replicate n one)) (extent 0 1 1) 1 ≡ 17
+full : (n : ℕ) → n ≡ maxEntries → noteAnswer map0 (logBytes width (replicate n one)) (extent 0 1 1 1) 1 ≡ 17
 unfolding noteAnswer mapOf draw end put join owner over valueOf
 full n e =
     let long : length (replicate n one) ≡ n = length-replicate n one in
     let few : length (replicate n one) ≤ maxEntries = omega arith in
     rw (empty-map, entries-sound (replicate n one) (ones-fit n) (ones-valid n) few, no-runs (mapSize width), entries-back (replicate n one) (ones-fit n) (ones-valid n) few, long, le-leb maxEntries n (omega arith))
 
-pub note-17 : noteAnswer map0 (logBytes width (replicate maxEntries one)) (extent 0 1 1) 1 ≡ 17
+pub note-17 : noteAnswer map0 (logBytes width (replicate maxEntries one)) (extent 0 1 1 1) 1 ≡ 17
 note-17 = full maxEntries refl
 
--- Write
-pub write-12 : writeAnswer [] (extent 0 1 1) 1 ≡ 12
+-- Write: 15 by the pass
+pub write-12 : writeAnswer [] (extent 0 1 1 1) 1 ≡ 12
 unfolding writeAnswer soundMapBytes
 write-12 = refl
 
-pub write-14 : writeAnswer map0 (extent 0 0 1) 1 ≡ 14
+pub write-14 : writeAnswer map0 (extent 0 0 1 1) 1 ≡ 14
 unfolding writeAnswer
 write-14 = rw empty-map
 
-pub write-15 : writeAnswer map0 (extent 0 1 0) 1 ≡ 15
+pub write-15 : writeAnswer map0 (extent 0 1 1 0) 1 ≡ 15
 unfolding writeAnswer
 write-15 = rw empty-map
 
-pub write-18 : writeAnswer map0 (extent 0 1 1) 1 ≡ 18
+pub write-18 : writeAnswer map0 (extent 0 1 1 1) 1 ≡ 18
 unfolding writeAnswer behind owner valueOf
 write-18 = rw (empty-map, no-runs (mapSize width))
 

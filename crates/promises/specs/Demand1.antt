@@ -193,9 +193,9 @@ pub data Gets : Entry → ℕ → Type 0 where
   listing : {n : ℕ} (items : List Item) (table events : List ℕ)
       → Words (itemWords items) → Bytes table → Bytes events → listRefusal items table events ≡ n → Gets list n
   noting : {n : ℕ} (map log : List ℕ) (e : Extent) (image : ℕ)
-      → Words (e .first ∷ e .len ∷ e .age .number .0 ∷ image ∷ []) → Bytes map → Bytes log → noteAnswer map log e image ≡ n → Gets note n
+      → Words (e .first ∷ e .len ∷ e .age .number .0 ∷ e .age .pass .0 ∷ image ∷ []) → Bytes map → Bytes log → noteAnswer map log e image ≡ n → Gets note n
   writing : {n : ℕ} (map : List ℕ) (p : Piece) (image : List ℕ)
-      → Words (p .first ∷ p .number ∷ []) → Bytes map → Bytes (p .bytes) → Bytes image → writeAnswer map (extentOf p) (length image) ≡ n → Gets write n
+      → Words (p .first ∷ p .number ∷ p .pass ∷ []) → Bytes map → Bytes (p .bytes) → Bytes image → writeAnswer map (extentOf p) (length image) ≡ n → Gets write n
   restarting : {n : ℕ} (map log : List ℕ) → Bytes map → Bytes log → restartAnswer map log ≡ n → Gets restart n
   compacting : {n : ℕ} (log new : List ℕ) → Bytes log → Bytes new → compactAnswer log new ≡ n → Gets compact n
 

@@ -1,8 +1,8 @@
 -- DEMAND 3. "Take any pieces for a stripe, noted and written in any order and any number of times, with cuts anywhere, a restart after each. Suppose
 -- pieces of equal number agree where they overlap, each noted piece had a write accepted, and the last accepted write of every piece ran to its end.
 -- Then each byte under a noted piece is that of the noted piece with the greatest number there, and every other byte is as it began." Document 02,
--- #102: "demand 3 now has this call among its steps".
-use Prim.Native.Nat.{ℕ, _≤_}
+-- #102: "demand 3 now has this call among its steps"; #103: "Demand 3, its agreement premise too, reads pair for number".
+use Prim.Native.Nat.{ℕ, _≤_, _<_}
 use mathlib.Core.Path.{_≡_}
 use mathlib.Core.Logic.{_⊎_}
 use mathlib.Core.Bool.{true}
@@ -16,24 +16,33 @@ use Rattle.runs.specs.Bytes.{runsOf, mapSize, logSize, soundMapBytes, mapBytes,
 use Rattle.restart.specs.Restart.{restartAnswer}
 use Rattle.compact.specs.Compact.{compactAnswer}
 use Rattle.promises.specs.Among.{Among}
-use Rattle.promises.specs.Run.{Piece, ageOf, Covers, byteOf, placeOf, Map, lost, live, Second, none, ready, Stripe, EmptyLog, begin, Step, after, noted, Write, accepted, entries}
+use Rattle.promises.specs.Run.{Piece, Covers, byteOf, placeOf, Map, lost, live, Second, none, ready, Stripe, EmptyLog, begin, Step, after, noted, Write, accepted, entries}
 
 abbrev pub HasWrite : Piece → List Write → Type 0
 HasWrite p [] = ⊥
 HasWrite p (w ∷ ws) = (p ≡ w .piece) ⊎ HasWrite p ws
 
--- "pieces of equal number agree where they overlap": of pieces that had a write accepted, and so of each noted piece. A refused piece may say anything
+-- Two pieces of one pair
+abbrev pub SamePair : Piece → Piece → Type 0
+SamePair p q = (p .number ≡ q .number) × (p .pass ≡ q .pass)
+
+-- The pair of p is at most that of q: "age is judged by number first and pass second"
+abbrev pub AtMost : Piece → Piece → Type 0
+AtMost p q = (p .number < q .number) ⊎ ((p .number ≡ q .number) × (p .pass ≤ q .pass))
+
+-- "pieces of equal number agree where they overlap", pair for number: of pieces that had a write accepted, and so of each noted piece. A refused piece
+-- may say anything
 abbrev pub Agree : List Write → Type 0
-Agree ws = (p q : Piece) → HasWrite p ws → HasWrite q ws → ageOf p ≡ ageOf q → (b : ℕ) → Covers p b → Covers q b → byteOf p b ≡ byteOf q b
+Agree ws = (p q : Piece) → HasWrite p ws → HasWrite q ws → SamePair p q → (b : ℕ) → Covers p b → Covers q b → byteOf p b ≡ byteOf q b
 
 -- "the last accepted write of every piece ran to its end": a write that no later one of its piece follows is whole
 abbrev pub Finished : List Write → Type 0
 Finished [] = Unit {0}
 Finished (w ∷ ws) = ((HasWrite (w .piece) ws → ⊥) → w .whole ≡ true) × Finished ws
 
--- p is the noted piece with the greatest number over b
+-- p is the noted piece with the greatest number over b, pair for number
 abbrev pub Greatest : List Piece → ℕ → Piece → Type 0
-Greatest ps b p = Among p ps × Covers p b × ((q : Piece) → Among q ps → Covers q b → ageOf q ≤ ageOf p)
+Greatest ps b p = Among p ps × Covers p b × ((q : Piece) → Among q ps → Covers q b → AtMost q p)
 
 pub record Kept (ps : List Piece) (old new : List ℕ) : Type 0 where
   pub some : (b : ℕ) (p : Piece) → Among p ps → Covers p b → (q : Piece) × Greatest ps b q

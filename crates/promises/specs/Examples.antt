@@ -1,9 +1,11 @@
--- The settled examples P1 to P11 of document 01, as one table. Each row is computed from the rules and compared with what the document prints.
+-- The settled examples P1 to P11 of document 01, as one table, and after them those of document 02, #103. Each row is computed from the rules and
+-- compared with what the document prints.
 use Prim.Native.Nat.{ℕ, suc}
 use mathlib.Core.Path.{_≡_, refl}
 use mathlib.Core.Bool.{false}
 use mathlib.Core.List.{List, [], _∷_, _++_, map}
 use lib.ListN.{replicate}
+use Rattle.common.specs.Counters.{number}
 use Rattle.common.specs.Ranges.{eof}
 use Rattle.modes.specs.Conflict.{conflict}
 use Rattle.table.specs.Table.{Table, empty}
@@ -14,8 +16,8 @@ use Rattle.locks.specs.Refusals.{rules}
 use Rattle.locks.specs.Serve.{Outcome, serve, change, answered}
 use Rattle.locks.specs.Events.{eventFields}
 use Rattle.runs.specs.declared.Run.{Run}
-use Rattle.runs.specs.Ages.{valueOf, age}
-use Rattle.runs.specs.Owner.{run, over, owner}
+use Rattle.runs.specs.Ages.{pass, valueOf, age}
+use Rattle.runs.specs.Owner.{over, owner}
 use Rattle.runs.specs.Map.{mapOf, end, draw, put, join}
 use Rattle.runs.specs.Sound.{soundMap, soundLog, sane, apart}
 use Rattle.stripe.specs.declared.Extent.{Extent}
@@ -66,24 +68,28 @@ abbrev pub computed : Row → Row
 computed (sending sent printed) = sending sent (session empty sent)
 computed (calling made answered map image) = calling made (answers begin made) (afterCalls begin made .map) (afterCalls begin made .image)
 
--- The pieces of P8 to P11: where, the letter, and the number
+-- A run by its number and its pass
+abbrev paired : ℕ → ℕ → ℕ → ℕ → Run
+paired first last n p = record { first = first; last = last; age = record { number = number n; pass = pass p } }
+
+-- The pieces of P8 to P11: where, the letter, the number, and the pass
 abbrev noteA : Call
-noteA = noting (extent 0 6 2)
+noteA = noting (extent 0 6 2 1)
 
 abbrev noteB : Call
-noteB = noting (extent 4 4 1)
+noteB = noting (extent 4 4 1 1)
 
 abbrev noteC : Call
-noteC = noting (extent 5 3 3)
+noteC = noting (extent 5 3 3 1)
 
 abbrev A : Call
-A = writing (piece 0 (replicate 6 65) 2)
+A = writing (piece 0 (replicate 6 65) 2 1)
 
 abbrev B : Call
-B = writing (piece 4 (replicate 4 66) 1)
+B = writing (piece 4 (replicate 4 66) 1 1)
 
 abbrev C : Call
-C = writing (piece 5 (replicate 3 67) 3)
+C = writing (piece 5 (replicate 3 67) 3 1)
 
 -- `AAAAACCC..`
 abbrev owned : List ℕ
@@ -91,12 +97,28 @@ owned = replicate 5 65 ++ replicate 3 67 ++ replicate 2 46
 
 -- All noted, then written: map [0,4] 2, [5,7] 3
 abbrev inOrder : Call → Call → Call → Row
-inOrder x y z = calling (noteA ∷ noteB ∷ noteC ∷ x ∷ y ∷ z ∷ []) (replicate 6 0) (run 0 4 2 ∷ run 5 7 3 ∷ []) owned
+inOrder x y z = calling (noteA ∷ noteB ∷ noteC ∷ x ∷ y ∷ z ∷ []) (replicate 6 0) (paired 0 4 2 1 ∷ paired 5 7 3 1 ∷ []) owned
 
 -- Then note [8,9] number 3: second run [5,9]; and what comes after it
 abbrev joined : List Call → List ℕ → Row
 joined more says =
-    calling (noteA ∷ noteB ∷ noteC ∷ A ∷ B ∷ C ∷ noting (extent 8 2 3) ∷ more) (replicate 7 0 ++ says) (run 0 4 2 ∷ run 5 9 3 ∷ []) owned
+    calling (noteA ∷ noteB ∷ noteC ∷ A ∷ B ∷ C ∷ noting (extent 8 2 3 1) ∷ more) (replicate 7 0 ++ says) (paired 0 4 2 1 ∷ paired 5 9 3 1 ∷ []) owned
+
+-- #103: `aaaa` at 2 in the first pass of number 1, and over its end `bbb` in the second. `..abbb....`
+abbrev noteFirst : Call
+noteFirst = noting (extent 2 4 1 1)
+
+abbrev noteSecond : Call
+noteSecond = noting (extent 3 3 1 2)
+
+abbrev first : Call
+first = writing (piece 2 (replicate 4 97) 1 1)
+
+abbrev second : Call
+second = writing (piece 3 (replicate 3 98) 1 2)
+
+abbrev twice : List ℕ
+twice = replicate 2 46 ++ replicate 1 97 ++ replicate 3 98 ++ replicate 4 46
 
 unfoldable pub examples : List Row
 examples =
@@ -168,8 +190,14 @@ examples =
     ∷ inOrder C B A
     -- P9, P10, P11
     ∷ joined [] []
-    ∷ joined (writing (piece 8 (replicate 2 69) 4) ∷ []) (18 ∷ [])
-    ∷ joined (noting (extent 8 0 3) ∷ writing (piece 8 [] 3) ∷ []) (14 ∷ 14 ∷ [])
+    ∷ joined (writing (piece 8 (replicate 2 69) 4 1) ∷ []) (18 ∷ [])
+    ∷ joined (noting (extent 8 0 3 1) ∷ writing (piece 8 [] 3 1) ∷ []) (14 ∷ 14 ∷ [])
+    -- #103: two passes under one number, the first resent last; then the same with a later number of pass 1, which no pass of the older one beats
+    ∷ calling (noteFirst ∷ first ∷ noteSecond ∷ second ∷ noteFirst ∷ first ∷ []) (replicate 6 0) (paired 2 2 1 1 ∷ paired 3 5 1 2 ∷ []) twice
+    ∷ calling (noting (extent 3 3 2 1) ∷ noteSecond ∷ noteFirst ∷ writing (piece 3 (replicate 3 98) 2 1) ∷ second ∷ first ∷ []) (replicate 6 0) (paired 2 2 1 1 ∷ paired 3 5 2 1 ∷ []) twice
+    -- a pass that is not noted is 18, and no pass is 15
+    ∷ joined (writing (piece 8 (replicate 2 69) 3 2) ∷ []) (18 ∷ [])
+    ∷ joined (noting (extent 8 2 3 0) ∷ writing (piece 8 (replicate 2 69) 3 0) ∷ noting (extent 8 2 3 4294967296) ∷ []) (15 ∷ 15 ∷ 15 ∷ [])
     ∷ []
 
 pub examples-hold : map computed examples ≡ examples

@@ -32,7 +32,7 @@ pub data Prints : List ℕ → List Message → List (List ℕ) → Type 0 where
 
 -- A call as a step of a run: a note is told how long the piece is
 abbrev pub step : Call → Step
-step (noting e) = run.note (piece (e .first) (replicate (e .len) 0) (e .age .number .0))
+step (noting e) = run.note (piece (e .first) (replicate (e .len) 0) (e .age .number .0) (e .age .pass .0))
 step (writing p) = run.write p
 
 abbrev pub answerOf : Stripe → Map → Call → ℕ

@@ -1,7 +1,8 @@
--- THE SEAM, the owner's own story. A session of the lock entries gives two write grants of a stripe, the i-th and, later, the j-th. A run of the
--- stripe's entries, with cuts and restarts anywhere, under demand 3's premises: each grant flushes a piece with its number over the byte b, and
--- every noted piece over b is of one of the two grants. Then at the end the byte is the later grant's, in whatever order the flushes arrived.
-use Prim.Native.Nat.{ℕ, _<_}
+-- THE SEAM, the owner's own story, as document 02, #103, has it. A session of the lock entries gives two write grants of a stripe, the i-th and, later,
+-- the j-th. A run of the stripe's entries, with cuts, restarts and compactions anywhere, under demand 3's premises: each grant flushes pieces with its
+-- number over the byte b, pass by pass. Then at the end the byte is the later grant's, and within one grant the later pass's, in whatever order the
+-- flushes arrived, the earlier ones resent last too.
+use Prim.Native.Nat.{ℕ, _≤_, _<_}
 use mathlib.Core.Path.{_≡_}
 use mathlib.Core.Logic.{_⊎_}
 use mathlib.Core.List.{List}
@@ -20,16 +21,35 @@ use Rattle.promises.specs.Session.{Session}
 abbrev pub numberAt : ℕ → List Event → ℕ → ℕ
 numberAt s es i = getD (numbers s es) i 0
 
-abbrev pub Seam : Type 0
-Seam =
-    (ms : List Message) (es : List Event) (v : List ℕ) → Session (replicate (tableSize width) 0) ms es v
-    → (s i j : ℕ) → i < j → j < length (numbers s es)
-    → (log image : List ℕ) (run : List Step) → EmptyLog log
-    → Agree (accepted (begin log image) run)
-    → ((p : Piece) → Among p (noted (begin log image) run) → HasWrite p (accepted (begin log image) run))
-    → Finished (accepted (begin log image) run)
-    → (b : ℕ) (earlier later : Piece)
-    → Among earlier (noted (begin log image) run) → earlier .number ≡ numberAt s es i → Covers earlier b
-    → Among later (noted (begin log image) run) → later .number ≡ numberAt s es j → Covers later b
-    → ((p : Piece) → Among p (noted (begin log image) run) → Covers p b → (p .number ≡ numberAt s es i) ⊎ (p .number ≡ numberAt s es j))
-    → getD (after (begin log image) run .image) b 0 ≡ byteOf later b
+-- A run from an empty log on, with demand 3's premises
+pub record Flushes (log image : List ℕ) (run : List Step) : Type 0 where
+  pub empty : EmptyLog log
+  pub agree : Agree (accepted (begin log image) run)
+  pub sent : (p : Piece) → Among p (noted (begin log image) run) → HasWrite p (accepted (begin log image) run)
+  pub finished : Finished (accepted (begin log image) run)
+
+-- p is noted with the number n, and b is a byte of it
+abbrev pub Over : List Piece → ℕ → ℕ → Piece → Type 0
+Over ps n b p = Among p ps × (p .number ≡ n) × Covers p b
+
+pub record Seam : Type 0 where
+  -- "of two grants the later one's byte stands": every noted piece over b is of one of the two grants, and `later` has the later one's greatest pass
+  pub grants :
+      (ms : List Message) (es : List Event) (v : List ℕ) → Session (replicate (tableSize width) 0) ms es v
+      → (s i j : ℕ) → i < j → j < length (numbers s es)
+      → (log image : List ℕ) (run : List Step) → Flushes log image run
+      → (b : ℕ) (earlier later : Piece)
+      → Over (noted (begin log image) run) (numberAt s es i) b earlier
+      → Over (noted (begin log image) run) (numberAt s es j) b later
+      → ((p : Piece) → Among p (noted (begin log image) run) → Covers p b
+      → (p .number ≡ numberAt s es i) ⊎ ((p .number ≡ numberAt s es j) × (p .pass ≤ later .pass)))
+      → getD (after (begin log image) run .image) b 0 ≡ byteOf later b
+  -- "and within one grant the later pass's": every noted piece over b has the grant's number n, and `later` the greatest pass
+  pub passes :
+      (log image : List ℕ) (run : List Step) → Flushes log image run
+      → (n b : ℕ) (earlier later : Piece)
+      → Over (noted (begin log image) run) n b earlier
+      → Over (noted (begin log image) run) n b later
+      → earlier .pass < later .pass
+      → ((p : Piece) → Among p (noted (begin log image) run) → Covers p b → (p .number ≡ n) × (p .pass ≤ later .pass))
+      → getD (after (begin log image) run .image) b 0 ≡ byteOf later b
