@@ -3,11 +3,23 @@ use common::Number;
 use runs::Age;
 use runs::Pass;
 use stripe::Extent;
+ghost use mathlib.Core.Path.{_≡_};
+ghost use Rattle.runs.specs.Ages.{pair};
 ghost use Rattle.stripe.specs.Piece.{extent, piece};
 ghost use Rattle.note.specs.Note.{Notes};
 ghost use Rattle.write.specs.Write.{Writes};
 ghost use Rattle.restart.specs.Restart.{Restarts};
 ghost use Rattle.compact.specs.Compact.{Compacts};
+
+// Makes the age of a piece.
+fn age(number: u64, pass: u64) -> Age
+    ensures { λ r. ⌜ r ≡ pair number pass ⌝ }
+{
+    Age {
+        number: Number(number),
+        pass: Pass(pass),
+    }
+}
 
 // Notes a piece: appends its entry to the log, and raises the map by it.
 #[no_mangle]
@@ -22,10 +34,7 @@ pub extern "C" fn gil_note(
 ) -> u64
     ensures { λ r. ⌜ Notes (now (map .entry)) (now (log .entry)) (extent first len number pass) image r (now (map .exit)) (now (log .exit)) ⌝ }
 {
-    let age = Age {
-        number: Number(number),
-        pass: Pass(pass),
-    };
+    let age = age(number, pass);
     let e = Extent { first, len, age };
     note::note(map, log, e, image)
 }
@@ -42,11 +51,7 @@ pub extern "C" fn gil_write(
 ) -> u64
     ensures { λ r. ⌜ Writes (now (map .entry)) (piece first (now (bytes .entry)) number pass) (now (image .entry)) r (now (image .exit)) ⌝ }
 {
-    let age = Age {
-        number: Number(number),
-        pass: Pass(pass),
-    };
-    write::write(map, image, first, bytes, age)
+    write::write(map, image, first, bytes, age(number, pass))
 }
 
 // Fills the map with the log's map.

@@ -5,7 +5,6 @@ use mathlib.Core.Path.{_≡_, refl}
 use mathlib.Core.Bool.{false}
 use mathlib.Core.List.{List, [], _∷_, _++_, map}
 use lib.ListN.{replicate}
-use Rattle.common.specs.Counters.{number}
 use Rattle.common.specs.Ranges.{eof}
 use Rattle.modes.specs.Conflict.{conflict}
 use Rattle.table.specs.Table.{Table, empty}
@@ -16,7 +15,7 @@ use Rattle.locks.specs.Refusals.{rules}
 use Rattle.locks.specs.Serve.{Outcome, serve, change, answered}
 use Rattle.locks.specs.Events.{eventFields}
 use Rattle.runs.specs.declared.Run.{Run}
-use Rattle.runs.specs.Ages.{pass, valueOf, age}
+use Rattle.runs.specs.Ages.{pair, valueOf, age}
 use Rattle.runs.specs.Owner.{over, owner}
 use Rattle.runs.specs.Map.{mapOf, end, draw, put, join}
 use Rattle.runs.specs.Sound.{soundMap, soundLog, sane, apart}
@@ -70,7 +69,7 @@ computed (calling made answered map image) = calling made (answers begin made) (
 
 -- A run by its number and its pass
 abbrev paired : ℕ → ℕ → ℕ → ℕ → Run
-paired first last n p = record { first = first; last = last; age = record { number = number n; pass = pass p } }
+paired first last n p = record { first = first; last = last; age = pair n p }
 
 -- The pieces of P8 to P11: where, the letter, the number, and the pass
 abbrev noteA : Call

@@ -7,12 +7,12 @@ use mathlib.Core.Logic.{⊎-elim}
 use mathlib.Core.Bool.{Bool, true, false, _&&_, _||_}
 use lib.Dec.{eqb, ltb, leb}
 use borrow.Author.Tests.{ltb-true, ltb-false, lt-ltb, le-ltb, leb-true, eq-eqb, ne-eqb}
-use Rattle.common.specs.Counters.{width, highest, number}
+use Rattle.common.specs.Counters.{width, highest}
 use Rattle.common.proofs.Bools.{and-left, and-right}
 use Rattle.common.proofs.Order.{below, same}
 use Rattle.runs.specs.declared.Age.{Age}
 use Rattle.runs.specs.declared.Run.{Run}
-use Rattle.runs.specs.Ages.{pass, passes, highestPass, valueOf, age, Exact}
+use Rattle.runs.specs.Ages.{pair, passes, highestPass, valueOf, age, Exact}
 use Rattle.runs.specs.Owner.{ageOf, run}
 use Rattle.runs.specs.Sound.{sane}
 use Rattle.runs.specs.Valid.{Valid}
@@ -34,7 +34,7 @@ unfolding Exact valueOf age
 pass-exact a h =
     let n : (a .number .0 * passes + a .pass .0) / passes ≡ a .number .0 = omega arith in
     let p : (a .number .0 * passes + a .pass .0) % passes ≡ a .pass .0 = omega arith in
-    λ i. record { number = number (n i); pass = pass (p i) }
+    λ i. pair (n i) (p i)
 
 pub exact-pass : (a : Age) → Exact a → a .pass .0 ≤ highestPass
 unfolding Exact age

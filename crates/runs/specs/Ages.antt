@@ -9,6 +9,10 @@ use Rattle.runs.specs.declared.Age.{Age}
 abbrev pub pass : ℕ → Pass
 pass n = record { 0 = n }
 
+-- The age of a number and a pass
+abbrev pub pair : ℕ → ℕ → Age
+pair n p = record { number = number n; pass = pass p }
+
 -- "a 4-byte pass": how many numbers its bytes tell apart, and the highest of them
 abbrev pub passWidth : ℕ
 passWidth = 4
@@ -25,7 +29,7 @@ valueOf a = a .number .0 * passes + a .pass .0
 
 -- The age of an ℕ. "A byte in no run has number 0", and pass 0
 unfoldable pub age : ℕ → Age
-age n = record { number = number (n / passes); pass = pass (n % passes) }
+age n = pair (n / passes) (n % passes)
 
 -- The ℕ says all of the age: its pass is one of the `passes`
 unfoldable pub Exact : Age → Type 0

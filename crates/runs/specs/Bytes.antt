@@ -5,13 +5,13 @@ use mathlib.Core.Bool.{Bool, _&&_}
 use mathlib.Core.List.{List, [], _∷_, map}
 use lib.Dec.{eqb}
 use lib.ListN.{length, getD, drop, replicate}
-use Rattle.common.specs.Counters.{width, number}
+use Rattle.common.specs.Counters.{width}
 use Rattle.common.specs.Tests.{zeros}
 use Rattle.xdr.specs.Be.{be, putBe}
 use Rattle.xdr.specs.Layout.{putFields, size}
 use Rattle.xdr.specs.Array.{array, putArray, arraySize, element}
 use Rattle.runs.specs.declared.Run.{Run}
-use Rattle.runs.specs.Ages.{pass, passWidth}
+use Rattle.runs.specs.Ages.{pair, passWidth}
 use Rattle.runs.specs.Sound.{maxRuns, maxEntries, soundMap, soundLog}
 
 -- "runs (first, last, number: ..)"; "entries shaped as runs"; "a 4-byte pass, at least 1, after the number"
@@ -19,7 +19,7 @@ abbrev pub runLayout : ℕ → List ℕ
 runLayout w = 8 ∷ 8 ∷ w ∷ passWidth ∷ []
 
 abbrev pub runOf : List ℕ → Run
-runOf fs = record { first = getD fs 0 0; last = getD fs 1 0; age = record { number = number (getD fs 2 0); pass = pass (getD fs 3 0) } }
+runOf fs = record { first = getD fs 0 0; last = getD fs 1 0; age = pair (getD fs 2 0) (getD fs 3 0) }
 
 abbrev pub runFields : Run → List ℕ
 runFields r = r .first ∷ r .last ∷ r .age .number .0 ∷ r .age .pass .0 ∷ []

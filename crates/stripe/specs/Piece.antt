@@ -2,14 +2,13 @@
 use Prim.Native.Nat.{ℕ, pred, _+_}
 use mathlib.Core.List.{List}
 use lib.ListN.{length}
-use Rattle.common.specs.Counters.{number}
 use Rattle.runs.specs.declared.Run.{Run}
-use Rattle.runs.specs.Ages.{pass}
+use Rattle.runs.specs.Ages.{pair}
 use Rattle.stripe.specs.declared.Extent.{Extent}
 
 -- What is told of a piece: "the piece's first byte, length, number", and its pass
 abbrev pub extent : ℕ → ℕ → ℕ → ℕ → Extent
-extent first len n p = record { first = first; len = len; age = record { number = number n; pass = pass p } }
+extent first len n p = record { first = first; len = len; age = pair n p }
 
 -- Its place: its bytes from the first on, at its age
 abbrev pub place : Extent → Run
