@@ -22,7 +22,7 @@
 extern "C" {
 #endif
 
-#define GIL_VERSION "0.3.0"
+#define GIL_VERSION "0.4.0"
 
 /* 1. Rules that no code can check
  *
@@ -41,7 +41,7 @@ extern "C" {
  *     (part 2) to the log before it.
  *   - The image has one length as long as its log is in use. Every note is told that length.
  *   - A piece is noted with the number of the lock it was written under, and inside its range.
- *   - Pieces of equal number agree wherever they overlap: a holder flushes each byte once under one lock.
+ *   - Pieces of equal number and equal pass agree wherever they overlap: the clients count passes for that, as below.
  *   - A table that starts again numbers its grants from 1, and their pieces then lose against the entries
  *     of older grants. So make the table as durable as the logs. If it has to start again, start every
  *     log again first (part 2).
@@ -51,6 +51,21 @@ extern "C" {
  * It needs memcpy, memmove and memset, and less than 64 KB of stack.
  *
  * A refused call changes no byte of any buffer.
+ *
+ * Passes. A client may flush, keep its lock, and write the same bytes again. A resend of the first flush must not beat
+ * the second, so each piece carries a pass: its age is judged by number first and pass second. The client counts:
+ *   - From 1 under each lock, with one count for the lock, from its grant to its release. A downgrade does not change
+ *     that. The next lock has a greater number, so it starts at 1 again.
+ *   - Before it writes anew to a byte that it has put into a piece of the present pass, it takes the next pass. Simplest
+ *     is one pass for each flush. Passes may be skipped.
+ *   - It may count on at any time, also while pieces of earlier passes are not confirmed.
+ *   - A resend has the same bytes, number and pass. So the client keeps each piece as it was sent until its write is
+ *     confirmed. What it wrote since goes out under a later pass.
+ *   - Pieces of earlier passes have to be written to the end like any other. One that is noted and not written holds
+ *     nothing back, but leaves its bytes undone where no later one covers them.
+ *   - At GIL_HIGHEST_PASS it flushes, releases the lock, and requests again.
+ *   - A client that starts again and does not know how far it had counted uses no pass of a lock that it still holds: it
+ *     releases the lock, and requests anew.
  */
 
 /* 2. Cuts: what must be durable, and in which order
@@ -58,10 +73,10 @@ extern "C" {
  * A cut ends the daemon at any place: a kill, a crash, a loss of power. Log and image survive it, the map
  * is lost. With the rules below, what a cut leaves is always enough to go on from.
  *
- * A note. gil_note changes two places of the log: the new entry's 20 bytes at gil_entry_place(n), where n
+ * A note. gil_note changes two places of the log: the new entry's 24 bytes at gil_entry_place(n), where n
  * is the count before the call, and the count, which is the first 4 bytes. Carry them out like this:
  *   1. Lend gil_note a copy of the log in memory, never the stored log: it can't wait between its stores.
- *   2. Put down the entry's 20 bytes. Wait until they are durable (fsync, msync).
+ *   2. Put down the entry's 24 bytes. Wait until they are durable (fsync, msync).
  *   3. Put down the count's 4 bytes as one store. Wait until they are durable.
  *   4. Only now is the piece noted: tell its client so, or write it. No byte of it goes into the image before.
  * A cut before step 3 leaves the old log, since bytes after the last entry may be anything. A cut after it
@@ -69,7 +84,7 @@ extern "C" {
  *
  * A write. A cut leaves any bytes at the places that this write would store, and changes none elsewhere.
  * So answer the client only once the image's bytes are durable. Until then the write counts as cut: the
- * client keeps the piece, and sends its write again after the cut until one ran to its end.
+ * client keeps the piece, and sends its write again, with the same number and pass, until one ran to its end.
  *
  * A message, or a list. A cut amid a call on the stored table could leave one that is not sound. So lend a copy. When
  * the call has returned, put the new table down whole beside the old one, and turn to it by one step, as a
@@ -99,11 +114,14 @@ extern "C" {
  *   - the runs: gil_count(map);
  *   - the outstanding pieces, that may still be noted: those of the holders of write locks, and those of the
  *     write requests that wait, since any call may grant them. Agree with the clients how many pieces there
- *     are under one lock at most.
+ *     are under one lock at most, of all its passes together: what is flushed again under a later pass is another
+ *     piece. A client writes no more under a lock than so many pieces can flush; then it releases the lock, and
+ *     requests again.
  * Hand in a write request only while runs and outstanding pieces, its own too, are together at most 512. Then
  * every outstanding piece fits, wherever it lies and in whatever order they come: the map of n entries has at
  * most 2n - 1 runs. (One piece may add many runs: an old one fills every gap between newer ones.)
- * A piece that is noted again does not count again. gil_pieces_that_fit says how many pieces may be outstanding.
+ * A piece that is noted again, with its own pass, does not count again. gil_pieces_that_fit says how many pieces may be
+ * outstanding.
  * When they are too many, hold back the clients' write requests for this stripe, let the holders flush and release,
  * and start the log again.
  *
@@ -115,9 +133,10 @@ extern "C" {
  * granted no other lock of the stripe is held: start the log again, and release it.
  *
  * What this gives (proved of a run from an empty log on, with cuts anywhere, and compactions and turns among the
- * steps): once each noted piece had a write accepted, and the last accepted write of every piece ran to its end, each
- * byte under a noted piece is that of the noted piece with the greatest number there, and every other byte is as it
- * began.
+ * steps, where pieces of equal number and equal pass agree wherever they overlap): once each noted piece had a write
+ * accepted, and the last accepted write of every piece ran to its end, each byte under a noted piece is that of the
+ * noted piece with the greatest number there, and among those of that number the greatest pass, and every other byte is
+ * as it began.
  */
 
 /* 3. Sizes, limits and codes
@@ -127,17 +146,23 @@ extern "C" {
  *
  * Until there were lists a record had 40 bytes, and a table 10,312. Such a table is refused with TABLE. To go
  * on with one, put 4 zero bytes after each of its records, and zeros after the last one up to 11,336.
+ *
+ * Until there were passes a run and an entry had 20 bytes, a map 20,484 and a log 40,964. Such a map is refused with
+ * MAP, and such a log with LOG. To go on with such a log, put pass 1, the bytes 0, 0, 0 and 1, after the number of each
+ * of its entries, and zeros after the last one up to 49,156; the count stays. Put the new log down beside the old one,
+ * and turn to it as to a compacted one (part 2). The map comes from a restart. Pieces that are still out are then of
+ * pass 1, and each lock that is still held is in its pass 1.
  */
 #define GIL_TABLE_BYTES 11336       /* handles issued, 16 last numbers, array of records; zeros after it */
 #define GIL_EVENTS_BYTES 11268      /* array of events; bytes after it stay as they are */
 #define GIL_LIST_EVENTS_BYTES 22532 /* the same for gil_request_list */
-#define GIL_MAP_BYTES 20484         /* array of runs; zeros after it */
-#define GIL_LOG_BYTES 40964         /* array of entries; bytes after it may be anything */
+#define GIL_MAP_BYTES 24580         /* array of runs; zeros after it */
+#define GIL_LOG_BYTES 49156         /* array of entries; bytes after it may be anything */
 
 #define GIL_BYTES_SHOWN 40 /* of a record: handle, client, stripe, mode, state, number; first, last: 8 bytes each */
 #define GIL_BYTES_PER_RECORD (GIL_BYTES_SHOWN + 4) /* what is shown; then 1 while a marked request waits, else 0 */
 #define GIL_BYTES_PER_EVENT (4 + GIL_BYTES_SHOWN)  /* kind, and then what is shown of the record */
-#define GIL_BYTES_PER_RUN 20    /* first, last: 8 bytes each; number. An entry of the log has the same shape. */
+#define GIL_BYTES_PER_RUN 24    /* first, last: 8 bytes each; number, pass. An entry of the log has the same shape. */
 
 #define GIL_MAX_CLIENTS 64      /* clients are 0 to 63 */
 #define GIL_MAX_STRIPES 16      /* stripes are 0 to 15 */
@@ -149,6 +174,7 @@ extern "C" {
 #define GIL_MAX_ENTRIES 2048    /* entries of a log */
 
 #define GIL_HIGHEST UINT64_C(4294967295)      /* the highest handle, and the highest number */
+#define GIL_HIGHEST_PASS UINT64_C(4294967295) /* the highest pass */
 #define GIL_EOF UINT64_C(9223372036854775807) /* the last byte that a range can have */
 
 /* Modes. */
@@ -186,10 +212,10 @@ extern "C" {
 #define GIL_REFUSED_MAP 12          /* map of another length, or not sound */
 #define GIL_REFUSED_LOG 13          /* log of another length, or not sound; second log of another length */
 #define GIL_REFUSED_PIECE 14        /* piece of length 0, past the image or past EOF */
-#define GIL_REFUSED_NUMBER 15       /* number 0 or above 4,294,967,295 */
+#define GIL_REFUSED_NUMBER 15       /* number or pass 0 or above 4,294,967,295 */
 #define GIL_REFUSED_RUNS 16         /* the resulting map needs over 1,024 runs */
 #define GIL_REFUSED_ENTRIES 17      /* log holds 2,048 entries */
-#define GIL_REFUSED_SMALLER 18      /* some byte of the piece has a smaller number in the map */
+#define GIL_REFUSED_SMALLER 18      /* some byte of the piece has a smaller pair in the map: number first, pass second */
 #define GIL_REFUSED_ITEMS 19        /* list of more than 64 items */
 
 /* Says what happened, and what to do about it. The text is constant and never null. The Rust library has its
@@ -225,14 +251,16 @@ static inline const char *gil_refusal_text(uint64_t refusal)
         return "The record is not in the state for this: acknowledge once, after a revocation; downgrade only a "
                "canceling BW or PW.";
     case GIL_REFUSED_MAP:
-        return "The map has another length, or is not sound: lend 20,484 bytes, and fill them from the log by a restart.";
+        return "The map has another length, or is not sound: lend 24,580 bytes, and fill them from the log by a restart.";
     case GIL_REFUSED_LOG:
-        return "The log has another length, or is not sound: lend its 40,964 bytes as stored, and to compact it a second "
-               "buffer as long; if its bytes are damaged, stop serving this stripe and bring back the log.";
+        return "The log has another length, or is not sound: lend its 49,156 bytes as stored, and to compact it a second "
+               "buffer as long; a log of 40,964 bytes has no passes, and gilboreth.h, part 3, says how to go on with it; "
+               "if its bytes are damaged, stop serving this stripe and bring back the log.";
     case GIL_REFUSED_PIECE:
         return "The piece is empty, or ends past the image or past EOF: send at least one byte, all inside the image.";
     case GIL_REFUSED_NUMBER:
-        return "The number is 0 or above 4,294,967,295: send the number that the lock's grant carried.";
+        return "The number or the pass is 0 or above 4,294,967,295: send the number that the lock's grant carried, and a "
+               "pass that is counted from 1 under this lock; at the highest pass flush, release and request again.";
     case GIL_REFUSED_RUNS:
         return "The map would need over 1,024 runs: nothing is lost, the holder keeps the piece; let others flush and "
                "note it again, since a newer piece over several runs makes room; the rule on room in the map "
@@ -241,7 +269,8 @@ static inline const char *gil_refusal_text(uint64_t refusal)
     case GIL_REFUSED_ENTRIES:
         return "The log is full with 2,048 entries: compact it, turn to the new log, and note again.";
     case GIL_REFUSED_SMALLER:
-        return "A byte of the piece has a smaller number in the map: note the piece first, then write it again.";
+        return "A byte of the piece has a smaller number in the map, or an equal number and a smaller pass: note the "
+               "piece first, then write it again.";
     case GIL_REFUSED_ITEMS:
         return "The list has more than 64 items: hand it in as lists of at most 64, one after the other.";
     default:
@@ -307,7 +336,8 @@ typedef struct {
  * A revocation: others wait for the lock. The client acknowledges it and starts nothing more under it. Once
  * its operations are done it may downgrade a BW or PW. It flushes what it cached, and then releases the lock.
  *
- * The number is what the pieces written under this lock are noted and written with. PR locks have 0.
+ * The number is what the pieces written under this lock are noted and written with; their passes the client counts,
+ * from 1 (part 1). PR locks have 0.
  */
 typedef struct {
     uint32_t kind; /* GIL_EVENT_GRANT or GIL_EVENT_REVOCATION */
@@ -402,7 +432,7 @@ GIL_CHECKED gil_answer gil_downgrade(uint8_t *table, size_t table_len, uint8_t *
  *
  * Takes: the table, the event buffer, the client, and the handle.
  * Answers: the same handle, which no record has from now on. Its record's room is used again.
- * Never: waits for the lock's pieces. Release only once each of them is written.
+ * Never: waits for the lock's pieces. Release only once each of them, of every pass, is written.
  * Refusals, in this order: EVENT_BUFFER, TABLE, CLIENT, NO_RECORD, OTHER_CLIENT.
  */
 GIL_CHECKED gil_answer gil_release(uint8_t *table, size_t table_len, uint8_t *events, size_t events_len,
@@ -410,9 +440,10 @@ GIL_CHECKED gil_answer gil_release(uint8_t *table, size_t table_len, uint8_t *ev
 
 /* 6. The stripe
  *
- * A client flushes a piece: bytes from a first byte on, with the number of the lock they were written under.
- * First the piece is noted, then it is written. Pieces may come in any order, and again.
- * The map has the greatest noted number of each byte. It lives in memory alone, and comes from the log.
+ * A client flushes a piece: bytes from a first byte on, with the number of the lock they were written under, and
+ * a pass. First the piece is noted, then it is written. Pieces may come in any order, and again.
+ * Number and pass are a pair. Of two pairs the greater one has the greater number or, where the numbers are equal, the
+ * greater pass. The map has the greatest noted pair of each byte. It lives in memory alone, and comes from the log.
  * The log grows with each note, until it is compacted: then it has an entry for each run of the map.
  */
 
@@ -423,34 +454,38 @@ static inline size_t gil_entry_place(size_t i)
 }
 
 /* How many pieces fit this map for sure, wherever they lie: 512 less its runs, since r runs and n pieces make at
- * most 2 (r + n) - 1 runs. More may fit. The rule that this serves is 'Room in the map' in part 2. */
+ * most 2 (r + n) - 1 runs. Pieces of every pass count. More may fit. The rule that this serves is 'Room in the map' in
+ * part 2. */
 static inline uint32_t gil_pieces_that_fit(const uint8_t *map)
 {
     uint32_t runs = gil_count(map);
     return runs < GIL_MAX_RUNS / 2 ? GIL_MAX_RUNS / 2 - runs : 0;
 }
 
-/* Notes a piece: appends its entry to the log, and raises the number of its bytes in the map.
+/* Notes a piece: appends its entry to the log, and raises the pair of each of its bytes in the map to the piece's where
+ * that is greater.
  *
- * Takes: map and log of the stripe; the piece's first byte, its length and its number; the image's length.
+ * Takes: map and log of the stripe; the piece's first byte, its length, its number and its pass; the image's length.
  * Answers: 0, or the refusal. After 0 carry entry and count out, in the order of part 2 above.
- * Never: changes an earlier entry, or a byte of the log other than the new entry's 20 and the count's 4;
- *   lowers a byte's number. A piece may be noted again, which takes one more entry.
+ * Never: changes an earlier entry, or a byte of the log other than the new entry's 24 and the count's 4;
+ *   lowers a byte's pair. A piece may be noted again, which takes one more entry.
  * Refusals, in this order: MAP, LOG, PIECE, NUMBER, RUNS, ENTRIES.
  */
 GIL_CHECKED uint64_t gil_note(uint8_t *map, size_t map_len, uint8_t *log, size_t log_len,
-                              uint64_t first, uint64_t length, uint64_t number, uint64_t image_length);
+                              uint64_t first, uint64_t length, uint64_t number, uint64_t pass,
+                              uint64_t image_length);
 
-/* Writes a noted piece: stores its bytes in the image exactly where the map has the piece's number.
+/* Writes a noted piece: stores its bytes in the image exactly where the map has the piece's pair, number and pass.
  *
- * Takes: the map; the whole image; the piece's first byte, its bytes and its number.
- * Answers: 0, or the refusal. 0 also where nothing was stored because greater numbers are noted everywhere.
- * Never: changes the map, a byte of the image outside the piece, or a byte where the map has another number.
- *   The same piece may be written again: a resend after a cut is accepted.
+ * Takes: the map; the whole image; the piece's first byte, its bytes, its number and its pass.
+ * Answers: 0, or the refusal. 0 also where nothing was stored because greater pairs are noted everywhere.
+ * Never: changes the map, a byte of the image outside the piece, or a byte where the map has another pair.
+ *   The same piece may be written again: a resend after a cut is accepted, and one of an earlier pass beats no later one.
  * Refusals, in this order: MAP, PIECE, NUMBER, SMALLER.
  */
 GIL_CHECKED uint64_t gil_write(const uint8_t *map, size_t map_len, uint8_t *image, size_t image_len,
-                               uint64_t first, const uint8_t *piece, size_t piece_len, uint64_t number);
+                               uint64_t first, const uint8_t *piece, size_t piece_len, uint64_t number,
+                               uint64_t pass);
 
 /* Fills the map from the log. After a cut, and at every start, this comes before any note or write.
  *
