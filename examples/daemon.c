@@ -6,13 +6,13 @@
  * in DIRECTORY/turn says: 4 bytes, big-endian, 0 for log and 1 for log2. A file that is missing is made of zero
  * bytes. The daemon restarts from the log, and then serves standard input, a command a line:
  *
- *     note FIRST LENGTH NUMBER    notes a piece
- *     write FIRST NUMBER BYTES    writes a noted piece; BYTES is the rest of the line
- *     flush FIRST NUMBER BYTES    notes a piece, and then writes it
- *     read FIRST LENGTH           shows bytes of the image
- *     room                        tells how many notes the log takes until it is compacted, and how many pieces
- *                                 fit the map for sure
- *     restart                     fills the map from the stored log again
+ *     note FIRST LENGTH NUMBER PASS    notes a piece
+ *     write FIRST NUMBER PASS BYTES    writes a noted piece; BYTES is the rest of the line
+ *     flush FIRST NUMBER PASS BYTES    notes a piece, and then writes it
+ *     read FIRST LENGTH                shows bytes of the image
+ *     room                             tells how many notes the log takes until it is compacted, and how many pieces
+ *                                      fit the map for sure
+ *     restart                          fills the map from the stored log again
  *     quit
  *
  * Each command gets one line: the refusal number, 0 where it is accepted, and what to do about it, or what was asked
@@ -22,7 +22,10 @@
  * the word turns to it.
  *
  * An answer is given once everything is durable, so the daemon may be killed at any place. A client that got no
- * answer sends its write again, and where that is refused with 18, its note was lost too: it flushes again.
+ * answer sends its write again, and where that is refused with 18, its note was lost too: it flushes again. Bytes,
+ * number and pass stay the same.
+ *
+ * A log of 40,964 bytes has no passes. The daemon says so and ends, and the log stays as it is.
  */
 #define _POSIX_C_SOURCE 200809L
 #include <fcntl.h>
@@ -43,6 +46,7 @@
 #endif
 
 #define WORD_BYTES 4
+#define LOG_BYTES_WITHOUT_PASSES 40964 /* until there were passes */
 
 struct stripe {
     uint8_t map[GIL_MAP_BYTES]; /* in memory alone: a cut loses it */
@@ -81,6 +85,8 @@ static uint8_t *map_file(int directory, const char *name, size_t length)
         die(name);
     if (status.st_size != 0 && (uintmax_t)status.st_size != length) {
         fprintf(stderr, "%s: it has %jd bytes, not %zu\n", name, (intmax_t)status.st_size, length);
+        if (length == GIL_LOG_BYTES && status.st_size == LOG_BYTES_WITHOUT_PASSES)
+            fputs("This log has no passes, and stays as it is: gilboreth.h, part 3, tells how to go on.\n", stderr);
         exit(1);
     }
     void *mapped = mmap(NULL, length, PROT_READ | PROT_WRITE, MAP_SHARED, file, 0);
@@ -133,21 +139,22 @@ static uint64_t compact(struct stripe *s)
     return GIL_ACCEPTED;
 }
 
-static uint64_t note(struct stripe *s, uint64_t first, uint64_t length, uint64_t number)
+static uint64_t note(struct stripe *s, uint64_t first, uint64_t length, uint64_t number, uint64_t pass)
 {
     uint64_t refusal = gil_count(s->log) < COMPACT_AT ? GIL_ACCEPTED : compact(s);
     if (refusal != GIL_ACCEPTED)
         return refusal;
-    refusal = gil_note(s->map, sizeof s->map, s->log, sizeof s->log, first, length, number, s->image_length);
+    refusal = gil_note(s->map, sizeof s->map, s->log, sizeof s->log, first, length, number, pass, s->image_length);
     if (refusal == GIL_ACCEPTED)
         carry_out(s);
     return refusal;
 }
 
-static uint64_t write_piece(struct stripe *s, uint64_t first, const char *bytes, size_t length, uint64_t number)
+static uint64_t write_piece(struct stripe *s, uint64_t first, const char *bytes, size_t length, uint64_t number,
+                            uint64_t pass)
 {
     uint64_t refusal = gil_write(s->map, sizeof s->map, s->image, s->image_length, first, (const uint8_t *)bytes,
-                                 length, number);
+                                 length, number, pass);
     if (refusal == GIL_ACCEPTED)
         make_durable(s->image, (size_t)first, length);
     return refusal;
@@ -212,7 +219,7 @@ static bool serve(struct stripe *s, char *line, size_t line_length)
 {
     char *rest = line, *end = line + line_length;
     const char *name = word(&rest);
-    uint64_t a, b, c;
+    uint64_t a, b, c, d;
     if (strcmp(name, "quit") == 0)
         return false;
     if (strcmp(name, "restart") == 0) {
@@ -220,13 +227,13 @@ static bool serve(struct stripe *s, char *line, size_t line_length)
         answer(refusal);
         return refusal == GIL_ACCEPTED; /* no note and no write before a restart has answered 0 */
     }
-    if (strcmp(name, "note") == 0 && number(&rest, &a) && number(&rest, &b) && number(&rest, &c))
-        answer(note(s, a, b, c));
-    else if (strcmp(name, "write") == 0 && number(&rest, &a) && number(&rest, &b))
-        answer(write_piece(s, a, rest, (size_t)(end - rest), b));
-    else if (strcmp(name, "flush") == 0 && number(&rest, &a) && number(&rest, &b)) {
-        uint64_t refusal = note(s, a, (uint64_t)(end - rest), b);
-        answer(refusal != GIL_ACCEPTED ? refusal : write_piece(s, a, rest, (size_t)(end - rest), b));
+    if (strcmp(name, "note") == 0 && number(&rest, &a) && number(&rest, &b) && number(&rest, &c) && number(&rest, &d))
+        answer(note(s, a, b, c, d));
+    else if (strcmp(name, "write") == 0 && number(&rest, &a) && number(&rest, &b) && number(&rest, &c))
+        answer(write_piece(s, a, rest, (size_t)(end - rest), b, c));
+    else if (strcmp(name, "flush") == 0 && number(&rest, &a) && number(&rest, &b) && number(&rest, &c)) {
+        uint64_t refusal = note(s, a, (uint64_t)(end - rest), b, c);
+        answer(refusal != GIL_ACCEPTED ? refusal : write_piece(s, a, rest, (size_t)(end - rest), b, c));
     } else if (strcmp(name, "read") == 0 && number(&rest, &a) && number(&rest, &b))
         answer_read(s, a, b);
     else if (strcmp(name, "room") == 0)
