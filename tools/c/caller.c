@@ -4,8 +4,8 @@
  *     get BUFFER          answers its bytes in hex
  *     request CLIENT STRIPE MODE FIRST LAST
  *     acknowledge CLIENT HANDLE       and so downgrade, release
- *     note FIRST LENGTH NUMBER        the image's length is that of the buffer
- *     write FIRST NUMBER              of the bytes in piece
+ *     note FIRST LENGTH NUMBER PASS   the image's length is that of the buffer
+ *     write FIRST NUMBER PASS         of the bytes in piece
  *     restart
  *     compact                         of log into new_log
  *     item CLIENT STRIPE MODE FIRST LAST      puts it behind the items of the list to come, and answers how many they are
@@ -124,9 +124,9 @@ int main(void)
         else if (strcmp(name, "release") == 0)
             message(gil_release(LENT(TABLE), LENT(EVENTS), n[0], n[1]));
         else if (strcmp(name, "note") == 0)
-            printf("%" PRIu64 "\n", gil_note(LENT(MAP), LENT(LOG), n[0], n[1], n[2], buffers[IMAGE].length));
+            printf("%" PRIu64 "\n", gil_note(LENT(MAP), LENT(LOG), n[0], n[1], n[2], n[3], buffers[IMAGE].length));
         else if (strcmp(name, "write") == 0)
-            printf("%" PRIu64 "\n", gil_write(LENT(MAP), LENT(IMAGE), n[0], LENT(PIECE), n[1]));
+            printf("%" PRIu64 "\n", gil_write(LENT(MAP), LENT(IMAGE), n[0], LENT(PIECE), n[1], n[2]));
         else if (strcmp(name, "restart") == 0)
             printf("%" PRIu64 "\n", gil_restart(LENT(MAP), LENT(LOG)));
         else if (strcmp(name, "compact") == 0)

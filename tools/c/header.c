@@ -16,12 +16,12 @@
 IS(GIL_TABLE_BYTES, 11336);
 IS(GIL_EVENTS_BYTES, 11268);
 IS(GIL_LIST_EVENTS_BYTES, 22532);
-IS(GIL_MAP_BYTES, 20484);
-IS(GIL_LOG_BYTES, 40964);
+IS(GIL_MAP_BYTES, 24580);
+IS(GIL_LOG_BYTES, 49156);
 IS(GIL_BYTES_SHOWN, 40);
 IS(GIL_BYTES_PER_RECORD, 44);
 IS(GIL_BYTES_PER_EVENT, 44);
-IS(GIL_BYTES_PER_RUN, 20);
+IS(GIL_BYTES_PER_RUN, 24);
 IS(GIL_MAX_CLIENTS, 63 + 1);
 IS(GIL_MAX_STRIPES, 15 + 1);
 IS(GIL_MAX_RECORDS, 256);
@@ -31,6 +31,7 @@ IS(GIL_MAX_LIST_EVENTS, 512);
 IS(GIL_MAX_RUNS, 1024);
 IS(GIL_MAX_ENTRIES, 2048);
 IS(GIL_HIGHEST, 4294967295);
+IS(GIL_HIGHEST_PASS, 4294967295);
 IS(GIL_EOF, 9223372036854775807);
 IS(GIL_MODE_PR, 1);
 IS(GIL_MODE_NBW, 2);
@@ -243,10 +244,29 @@ static void name_handle(const char *name, naming *call, uint64_t mode, int ackno
         CHECK(call(table, t, events, e, 0, 1).refusal == GIL_REFUSED_STATE);
 }
 
-static uint64_t note(size_t map_len, size_t log_len, uint64_t first, uint64_t length, uint64_t number)
+static uint64_t note(size_t map_len, size_t log_len, uint64_t first, uint64_t length, uint64_t number, uint64_t pass)
 {
-    return gil_note(map, map_len, log_bytes, log_len, first, length, number, sizeof image);
+    return gil_note(map, map_len, log_bytes, log_len, first, length, number, pass, sizeof image);
 }
+
+/* Puts a run or an entry of small places down. */
+static void put_run(uint8_t *run, uint64_t first, uint64_t last, uint64_t number, uint64_t pass)
+{
+    memset(run, 0, GIL_BYTES_PER_RUN);
+    put_u32(run + 4, first);
+    put_u32(run + 12, last);
+    put_u32(run + 16, number);
+    put_u32(run + 20, pass);
+}
+
+static int is_run(const uint8_t *run, uint64_t first, uint64_t last, uint64_t number, uint64_t pass)
+{
+    return gil_u64_at(run) == first && gil_u64_at(run + 8) == last && gil_u32_at(run + 16) == number
+        && gil_u32_at(run + 20) == pass;
+}
+
+/* Numbers and passes that are refused: 0, one past the highest, and some that would be 1 if they were cut to 32 bits. */
+static const uint64_t wrong[] = {0, UINT64_C(4294967296), UINT64_C(4294967297), UINT64_C(9223372036854775809)};
 
 static void stripe(void)
 {
@@ -255,44 +275,53 @@ static void stripe(void)
     memset(map, 0, m);
     memset(log_bytes, 0, l);
     for (uint64_t i = 0; i < GIL_MAX_RUNS; i++)
-        CHECK(note(m, l, 2 * i, 1, 1) == 0);
+        CHECK(note(m, l, 2 * i, 1, 1, 1) == 0);
     for (int i = GIL_MAX_RUNS; i < GIL_MAX_ENTRIES; i++)
-        CHECK(note(m, l, 0, 1, GIL_HIGHEST) == 0);
+        CHECK(note(m, l, 0, 1, GIL_HIGHEST, GIL_HIGHEST_PASS) == 0);
     CHECK(gil_count(map) == GIL_MAX_RUNS && gil_count(log_bytes) == GIL_MAX_ENTRIES);
     printf("gil_note:");
-    STEP(MAP, note(m - 1, l - 1, 1, n, 0));
-    STEP(LOG, note(m, l - 1, 1, n, 0));
-    STEP(PIECE, note(m, l, 1, n, 0));
-    CHECK(note(m, l, 0, 0, 0) == GIL_REFUSED_PIECE);
-    STEP(NUMBER, note(m, l, 1, 1, 0));
-    CHECK(note(m, l, 1, 1, GIL_HIGHEST + 1) == GIL_REFUSED_NUMBER);
-    STEP(RUNS, note(m, l, 1, 1, 2));
-    STEP(ENTRIES, note(m, l, 2, 1, 1));
+    STEP(MAP, note(m - 1, l - 1, 1, n, 0, 0));
+    STEP(LOG, note(m, l - 1, 1, n, 0, 0));
+    STEP(PIECE, note(m, l, 1, n, 0, 0));
+    CHECK(note(m, l, 0, 0, 0, 0) == GIL_REFUSED_PIECE);
+    STEP(NUMBER, note(m, l, 1, 1, 0, 0));
+    for (size_t i = 0; i < sizeof wrong / sizeof *wrong; i++) {
+        CHECK(note(m, l, 1, 1, wrong[i], 1) == GIL_REFUSED_NUMBER);
+        CHECK(note(m, l, 1, 1, 1, wrong[i]) == GIL_REFUSED_NUMBER);
+    }
+    STEP(RUNS, note(m, l, 1, 1, 2, 1));
+    CHECK(note(m, l, 1, 1, 1, 2) == GIL_REFUSED_RUNS); /* two runs touch it, of its number and another pass */
+    STEP(ENTRIES, note(m, l, 2, 1, 1, 1));
+    CHECK(note(m, l, 2, 1, GIL_HIGHEST, GIL_HIGHEST_PASS) == GIL_REFUSED_ENTRIES);
     memset(log_bytes, 0, l);
-    LAST(note(m, l, 2, 1, 1));
-    CHECK(gil_count(log_bytes) == 1 && gil_u64_at(log_bytes + gil_entry_place(0)) == 2);
-    CHECK(gil_u32_at(log_bytes + gil_entry_place(1) - 4) == 1);
-    CHECK(gil_note(map, m, log_bytes, l, GIL_EOF, 2, 1, UINT64_MAX) == GIL_REFUSED_PIECE);
+    LAST(note(m, l, 2, 1, 1, 1));
+    CHECK(gil_count(log_bytes) == 1 && is_run(log_bytes + gil_entry_place(0), 2, 2, 1, 1));
+    CHECK(note(m, l, 2, 2, 7, GIL_HIGHEST_PASS) == 0 && gil_count(log_bytes) == 2);
+    CHECK(is_run(log_bytes + gil_entry_place(1), 2, 3, 7, GIL_HIGHEST_PASS));
+    CHECK(gil_note(map, m, log_bytes, l, GIL_EOF, 2, 1, 1, UINT64_MAX) == GIL_REFUSED_PIECE);
     memset(map, 0, m);
-    CHECK(gil_note(map, m, log_bytes, l, GIL_EOF, 1, 1, UINT64_MAX) == 0);
+    CHECK(gil_note(map, m, log_bytes, l, GIL_EOF, 1, 1, 1, UINT64_MAX) == 0);
 
     printf("gil_write:");
-    STEP(MAP, gil_write(map, m - 1, image, n, n, one, 1, 0));
-    STEP(PIECE, gil_write(map, m, image, n, n, one, 1, 0));
-    STEP(NUMBER, gil_write(map, m, image, n, n - 1, one, 1, 0));
-    STEP(SMALLER, gil_write(map, m, image, n, n - 1, one, 1, GIL_HIGHEST));
-    CHECK(note(m, l, n - 1, 1, GIL_HIGHEST) == 0 && image[n - 1] == 0);
-    LAST(gil_write(map, m, image, n, n - 1, one, 1, GIL_HIGHEST));
+    STEP(MAP, gil_write(map, m - 1, image, n, n, one, 1, 0, 0));
+    STEP(PIECE, gil_write(map, m, image, n, n, one, 1, 0, 0));
+    STEP(NUMBER, gil_write(map, m, image, n, n - 1, one, 1, 0, 0));
+    for (size_t i = 0; i < sizeof wrong / sizeof *wrong; i++) {
+        CHECK(gil_write(map, m, image, n, n - 1, one, 1, wrong[i], 1) == GIL_REFUSED_NUMBER);
+        CHECK(gil_write(map, m, image, n, n - 1, one, 1, 1, wrong[i]) == GIL_REFUSED_NUMBER);
+    }
+    STEP(SMALLER, gil_write(map, m, image, n, n - 1, one, 1, GIL_HIGHEST, GIL_HIGHEST_PASS));
+    CHECK(note(m, l, n - 1, 1, GIL_HIGHEST, GIL_HIGHEST_PASS - 1) == 0);
+    CHECK(gil_write(map, m, image, n, n - 1, one, 1, GIL_HIGHEST, GIL_HIGHEST_PASS) == GIL_REFUSED_SMALLER);
+    CHECK(note(m, l, n - 1, 1, GIL_HIGHEST, GIL_HIGHEST_PASS) == 0 && image[n - 1] == 0);
+    LAST(gil_write(map, m, image, n, n - 1, one, 1, GIL_HIGHEST, GIL_HIGHEST_PASS));
     CHECK(image[n - 1] == 1);
 
     printf("gil_restart:");
     memset(log_bytes, 0, l);
     memset(map, 0xff, m); /* what the map buffer held does not matter */
-    for (int i = 0; i <= GIL_MAX_RUNS; i++) {
-        put_u32(log_bytes + gil_entry_place((size_t)i) + 4, (uint64_t)(2 * i));
-        put_u32(log_bytes + gil_entry_place((size_t)i) + 12, (uint64_t)(2 * i));
-        put_u32(log_bytes + gil_entry_place((size_t)i) + 16, 1);
-    }
+    for (size_t i = 0; i <= GIL_MAX_RUNS; i++)
+        put_run(log_bytes + gil_entry_place(i), 2 * i, 2 * i, 1, 1);
     put_u32(log_bytes, GIL_MAX_RUNS + 1);
     STEP(MAP, gil_restart(map, m - 1, log_bytes, l - 1));
     STEP(LOG, gil_restart(map, m, log_bytes, l - 1));
@@ -300,6 +329,119 @@ static void stripe(void)
     put_u32(log_bytes, GIL_MAX_RUNS);
     LAST(gil_restart(map, m, log_bytes, l));
     CHECK(gil_count(map) == GIL_MAX_RUNS);
+}
+
+/* Document 02, #103: "age is judged by number first and pass second". A has pass 1 and B pass 2 of number 2, and B comes
+ * first. */
+static void passes(void)
+{
+    size_t m = sizeof map, l = sizeof log_bytes, n = 10;
+    static uint8_t before[sizeof map];
+    const uint8_t *a = (const uint8_t *)"AAAAAA", *b = (const uint8_t *)"BBBB", *c = (const uint8_t *)"C";
+    uint8_t *first_run = map + gil_entry_place(0), *second_run = map + gil_entry_place(1);
+    memset(map, 0, m);
+    memset(log_bytes, 0, l);
+    memcpy(image, "..........", n);
+    CHECK(note(m, l, 2, 4, 2, 2) == 0 && gil_write(map, m, image, n, 2, b, 4, 2, 2) == 0);
+    CHECK(gil_write(map, m, image, n, 0, a, 6, 2, 1) == GIL_REFUSED_SMALLER);
+    CHECK(note(m, l, 0, 6, 2, 1) == 0 && gil_write(map, m, image, n, 0, a, 6, 2, 1) == 0);
+    CHECK(memcmp(image, "AABBBB....", n) == 0);
+    /* touching runs of one number, and of different passes */
+    CHECK(gil_count(map) == 2 && is_run(first_run, 0, 1, 2, 1) && is_run(second_run, 2, 5, 2, 2));
+    /* "18 is given where the map's pair is smaller": a greater pass, a greater number, and a byte that is A's */
+    memcpy(before, map, m);
+    CHECK(gil_write(map, m, image, n, 2, b, 4, 2, 3) == GIL_REFUSED_SMALLER);
+    CHECK(gil_write(map, m, image, n, 2, b, 4, 3, 1) == GIL_REFUSED_SMALLER);
+    CHECK(gil_write(map, m, image, n, 1, b, 4, 2, 2) == GIL_REFUSED_SMALLER);
+    CHECK(memcmp(image, "AABBBB....", n) == 0);
+    /* a smaller number loses with any pass: it is accepted, and stores nothing */
+    CHECK(note(m, l, 0, 6, 1, GIL_HIGHEST_PASS) == 0 && memcmp(map, before, m) == 0);
+    CHECK(gil_write(map, m, image, n, 0, (const uint8_t *)"------", 6, 1, GIL_HIGHEST_PASS) == 0);
+    CHECK(memcmp(image, "AABBBB....", n) == 0);
+    /* A comes again, noted and written: after a restart, and after a restart of the compacted log */
+    for (int i = 0; i < 2; i++) {
+        CHECK(note(m, l, 0, 6, 2, 1) == 0 && memcmp(map, before, m) == 0);
+        memset(map, 0xff, m);
+        CHECK(gil_restart(map, m, log_bytes, l) == 0 && memcmp(map, before, m) == 0);
+        CHECK(gil_write(map, m, image, n, 0, a, 6, 2, 1) == 0 && memcmp(image, "AABBBB....", n) == 0);
+        CHECK(gil_compact(log_bytes, l, new_log, l) == 0 && memcmp(new_log, map, m) == 0);
+        memcpy(log_bytes, new_log, l);
+    }
+    /* a greater number beats with pass 1; then its second pass; and runs of equal pairs that touch become one */
+    CHECK(note(m, l, 0, 1, 3, 1) == 0 && gil_write(map, m, image, n, 0, c, 1, 3, 1) == 0);
+    CHECK(memcmp(image, "CABBBB....", n) == 0 && gil_count(map) == 3 && is_run(first_run, 0, 0, 3, 1));
+    CHECK(note(m, l, 1, 1, 3, 2) == 0 && gil_count(map) == 3 && is_run(second_run, 1, 1, 3, 2));
+    CHECK(note(m, l, 0, 1, 3, 2) == 0 && gil_count(map) == 2 && is_run(first_run, 0, 1, 3, 2));
+
+    /* "touching runs have different" pairs; "a 4-byte pass, at least 1" */
+    static const struct {
+        uint64_t first, numbers[2], passes[2], refusal;
+    } pairs[] = {{2, {2, 2}, {1, 2}, 0},
+                 {2, {2, 2}, {2, 1}, 0},
+                 {2, {2, 3}, {1, 1}, 0},
+                 {2, {2, 2}, {1, 1}, GIL_REFUSED_MAP},
+                 {3, {2, 2}, {1, 1}, 0},
+                 {3, {2, 2}, {0, 1}, GIL_REFUSED_MAP},
+                 {3, {2, 2}, {1, 0}, GIL_REFUSED_MAP},
+                 {3, {0, 2}, {1, 1}, GIL_REFUSED_MAP},
+                 {3, {2, 2}, {GIL_HIGHEST_PASS, GIL_HIGHEST_PASS}, 0}};
+    for (size_t i = 0; i < sizeof pairs / sizeof *pairs; i++) {
+        memset(map, 0, m);
+        memset(log_bytes, 0, l);
+        put_u32(map, 2);
+        put_run(first_run, 0, 1, pairs[i].numbers[0], pairs[i].passes[0]);
+        put_run(second_run, pairs[i].first, 4, pairs[i].numbers[1], pairs[i].passes[1]);
+        CHECK(gil_write(map, m, image, n, 0, c, 1, 1, 1) == pairs[i].refusal);
+        CHECK(note(m, l, 0, 1, 1, 1) == pairs[i].refusal);
+    }
+    for (uint32_t pass = 0; pass < 2; pass++) {
+        uint64_t refusal = pass == 0 ? GIL_REFUSED_LOG : 0;
+        memset(log_bytes, 0, l);
+        put_u32(log_bytes, 2);
+        put_run(log_bytes + gil_entry_place(0), 0, 1, 2, 1);
+        put_run(log_bytes + gil_entry_place(1), 0, 1, 2, pass);
+        CHECK(gil_restart(map, m, log_bytes, l) == refusal);
+        CHECK(gil_compact(log_bytes, l, new_log, l) == refusal);
+        memset(map, 0, m);
+        CHECK(note(m, l, 0, 1, 1, 1) == refusal);
+    }
+}
+
+/* Maps and logs of before there were passes: every call refuses their lengths. Then such a log goes on as part 3 of the
+ * header says. */
+static void without_passes(void)
+{
+    enum { OLD_MAP = 20484, OLD_LOG = 40964, OLD_ENTRY = 20 };
+    static uint8_t old[OLD_LOG];
+    size_t m = sizeof map, l = sizeof log_bytes, n = sizeof image;
+    uint8_t one[1] = {1}, pass_1[4] = {0, 0, 0, 1}, run[GIL_BYTES_PER_RUN];
+    memset(map, 0, m);
+    memset(log_bytes, 0, l);
+    CHECK(note(OLD_MAP, l, 0, 1, 1, 1) == GIL_REFUSED_MAP && note(m, OLD_LOG, 0, 1, 1, 1) == GIL_REFUSED_LOG);
+    CHECK(note(m, l, 0, 1, 1, 1) == 0);
+    CHECK(gil_write(map, OLD_MAP, image, n, 0, one, 1, 1, 1) == GIL_REFUSED_MAP);
+    CHECK(gil_restart(map, OLD_MAP, log_bytes, l) == GIL_REFUSED_MAP);
+    CHECK(gil_restart(map, m, log_bytes, OLD_LOG) == GIL_REFUSED_LOG);
+    CHECK(gil_compact(log_bytes, OLD_LOG, new_log, l) == GIL_REFUSED_LOG);
+    CHECK(gil_compact(log_bytes, l, new_log, OLD_LOG) == GIL_REFUSED_LOG);
+    CHECK(gil_compact(log_bytes, OLD_LOG, new_log, OLD_LOG) == GIL_REFUSED_LOG);
+
+    /* P8 of document 01, and so many entries more that the log is full */
+    static const uint64_t p8[3][3] = {{0, 5, 2}, {4, 7, 1}, {5, 7, 3}};
+    put_u32(old, GIL_MAX_ENTRIES);
+    for (size_t i = 0; i < GIL_MAX_ENTRIES; i++) {
+        put_run(run, p8[i % 3][0], p8[i % 3][1], p8[i % 3][2], 0);
+        memcpy(old + 4 + OLD_ENTRY * i, run, OLD_ENTRY);
+    }
+    CHECK(gil_restart(map, m, old, sizeof old) == GIL_REFUSED_LOG);
+    memset(log_bytes, 0, l);
+    memcpy(log_bytes, old, 4);
+    for (size_t i = 0; i < gil_count(old); i++) {
+        memcpy(log_bytes + gil_entry_place(i), old + 4 + OLD_ENTRY * i, OLD_ENTRY);
+        memcpy(log_bytes + gil_entry_place(i) + OLD_ENTRY, pass_1, sizeof pass_1);
+    }
+    CHECK(gil_restart(map, m, log_bytes, l) == 0 && gil_count(map) == 2);
+    CHECK(is_run(map + gil_entry_place(0), 0, 4, 2, 1) && is_run(map + gil_entry_place(1), 5, 7, 3, 1));
 }
 
 /* Whether every byte of a buffer is this one. */
@@ -314,18 +456,18 @@ static void compact(void)
 {
     static uint8_t before[sizeof log_bytes], again[sizeof log_bytes];
     size_t m = sizeof map, l = sizeof log_bytes;
-    /* 1,025 runs apart from each other, of number 2; the older entries under them are no runs */
+    /* 1,025 runs apart from each other, of number 2 and pass 2; the older entries under them are no runs */
     memset(log_bytes, 0xee, l); /* after the last entry, bytes may be anything */
     for (size_t i = 0; i <= GIL_MAX_RUNS; i++) {
         uint8_t *entry = log_bytes + gil_entry_place(GIL_MAX_RUNS - i); /* falling */
-        memset(entry, 0, GIL_BYTES_PER_RUN);
-        put_u32(entry + 4, 2 * i);
-        put_u32(entry + 12, 2 * i);
-        put_u32(entry + 16, 2);
+        put_run(entry, 2 * i, 2 * i, 2, 2);
     }
     for (size_t i = GIL_MAX_RUNS + 1; i < GIL_MAX_ENTRIES; i++) {
         memcpy(log_bytes + gil_entry_place(i), log_bytes + gil_entry_place(i - GIL_MAX_RUNS), GIL_BYTES_PER_RUN);
-        put_u32(log_bytes + gil_entry_place(i) + 16, 1);
+        if (i % 2 == 0)
+            put_u32(log_bytes + gil_entry_place(i) + 16, 1); /* of an older number, */
+        else
+            put_u32(log_bytes + gil_entry_place(i) + 20, 1); /* or of the same one, and an older pass */
     }
     put_u32(log_bytes, GIL_MAX_ENTRIES);
     memcpy(before, log_bytes, l);
@@ -340,25 +482,21 @@ static void compact(void)
     STEP(RUNS, gil_compact(log_bytes, l, new_log, l));
     CHECK(all(new_log, l, 0xdd) && memcmp(log_bytes, before, l) == 0);
     /* the first entry is the last run; now it is an older entry too, under the first run */
-    put_u32(log_bytes + gil_entry_place(0) + 4, 0);
-    put_u32(log_bytes + gil_entry_place(0) + 12, 0);
-    put_u32(log_bytes + gil_entry_place(0) + 16, 1);
+    put_run(log_bytes + gil_entry_place(0), 0, 0, 1, 3);
     memcpy(before, log_bytes, l);
     LAST(gil_compact(log_bytes, l, new_log, l));
     CHECK(memcmp(log_bytes, before, l) == 0 && gil_count(new_log) == GIL_MAX_RUNS);
-    for (size_t i = 0; i < GIL_MAX_RUNS; i++) {
-        const uint8_t *entry = new_log + gil_entry_place(i);
-        CHECK(gil_u64_at(entry) == 2 * i && gil_u64_at(entry + 8) == 2 * i && gil_u32_at(entry + 16) == 2);
-    }
+    for (size_t i = 0; i < GIL_MAX_RUNS; i++)
+        CHECK(is_run(new_log + gil_entry_place(i), 2 * i, 2 * i, 2, 2));
     CHECK(all(new_log + gil_entry_place(GIL_MAX_RUNS), l - gil_entry_place(GIL_MAX_RUNS), 0));
     CHECK(gil_compact(new_log, l, again, l) == 0 && memcmp(new_log, again, l) == 0);
     /* the full log had no room; the new one takes 1,024 notes, and the 1,025th is refused */
-    CHECK(gil_restart(map, m, log_bytes, l) == 0 && note(m, l, 0, 1, 3) == GIL_REFUSED_ENTRIES);
+    CHECK(gil_restart(map, m, log_bytes, l) == 0 && note(m, l, 0, 1, 3, 1) == GIL_REFUSED_ENTRIES);
     memcpy(log_bytes, new_log, l);
     CHECK(gil_restart(map, m, log_bytes, l) == 0);
     for (int i = 0; i < GIL_MAX_ENTRIES - GIL_MAX_RUNS; i++)
-        CHECK(note(m, l, 0, 1, 3) == 0);
-    CHECK(note(m, l, 0, 1, 3) == GIL_REFUSED_ENTRIES);
+        CHECK(note(m, l, 0, 1, 3, 1) == 0);
+    CHECK(note(m, l, 0, 1, 3, 1) == GIL_REFUSED_ENTRIES);
 }
 
 /* As many pieces as gil_pieces_that_fit says, and the most runs that they can make: 511 apart from each other, and an
@@ -370,10 +508,10 @@ static void pieces(void)
     memset(log_bytes, 0, l);
     CHECK(gil_pieces_that_fit(map) == 512);
     for (uint32_t i = 0; i < 100; i++)
-        CHECK(gil_pieces_that_fit(map) == 512 - i && note(m, l, 4 * i + 1, 1, 2) == 0);
+        CHECK(gil_pieces_that_fit(map) == 512 - i && note(m, l, 4 * i + 1, 1, 2, 1 + i) == 0);
     for (uint32_t left = gil_pieces_that_fit(map), i = 100; left > 1; left--, i++)
-        CHECK(note(m, l, 4 * i + 1, 1, 2) == 0);
-    CHECK(gil_pieces_that_fit(map) == 1 && note(m, l, 0, sizeof image, 1) == 0);
+        CHECK(note(m, l, 4 * i + 1, 1, 2, 1 + i) == 0);
+    CHECK(gil_pieces_that_fit(map) == 1 && note(m, l, 0, sizeof image, 1, 1) == 0);
     CHECK(gil_count(map) == 2 * 512 - 1 && gil_pieces_that_fit(map) == 0);
 }
 
@@ -497,9 +635,9 @@ static void null_buffers(void)
         CHECK(namings[i](table, t, NULL, 0, 0, 1).refusal == GIL_REFUSED_EVENT_BUFFER);
         CHECK(namings[i](NULL, 0, NULL, 0, 0, 1).refusal == GIL_REFUSED_EVENT_BUFFER);
     }
-    CHECK(gil_note(NULL, 0, log_bytes, l, 0, 1, 1, 1) == GIL_REFUSED_MAP);
-    CHECK(gil_note(map, m, NULL, 0, 0, 1, 1, 1) == GIL_REFUSED_LOG);
-    CHECK(gil_note(NULL, 0, NULL, 0, 0, 1, 1, 1) == GIL_REFUSED_MAP);
+    CHECK(gil_note(NULL, 0, log_bytes, l, 0, 1, 1, 1, 1) == GIL_REFUSED_MAP);
+    CHECK(gil_note(map, m, NULL, 0, 0, 1, 1, 1, 1) == GIL_REFUSED_LOG);
+    CHECK(gil_note(NULL, 0, NULL, 0, 0, 1, 1, 1, 1) == GIL_REFUSED_MAP);
     CHECK(gil_restart(NULL, 0, log_bytes, l) == GIL_REFUSED_MAP);
     CHECK(gil_restart(map, m, NULL, 0) == GIL_REFUSED_LOG);
     CHECK(gil_restart(NULL, 0, NULL, 0) == GIL_REFUSED_MAP);
@@ -509,12 +647,13 @@ static void null_buffers(void)
     CHECK(gil_compact(NULL, 0, NULL, 0) == GIL_REFUSED_LOG);
     CHECK(memcmp(new_log, zeros, l) == 0);
     CHECK(memcmp(map, zeros, m) == 0 && memcmp(log_bytes, zeros, l) == 0);
-    CHECK(note(m, l, 0, 1, 1) == 0 && image[0] == 0);
-    CHECK(gil_write(NULL, 0, image, n, 0, one, 1, 1) == GIL_REFUSED_MAP);
-    CHECK(gil_write(map, m, NULL, 0, 0, one, 1, 1) == GIL_REFUSED_PIECE);
-    CHECK(gil_write(map, m, image, n, 0, NULL, 0, 1) == GIL_REFUSED_PIECE);
-    CHECK(gil_write(map, m, NULL, 0, 0, NULL, 0, 1) == GIL_REFUSED_PIECE);
-    CHECK(gil_write(NULL, 0, NULL, 0, 0, NULL, 0, 1) == GIL_REFUSED_MAP);
+    image[0] = 0;
+    CHECK(note(m, l, 0, 1, 1, 1) == 0);
+    CHECK(gil_write(NULL, 0, image, n, 0, one, 1, 1, 1) == GIL_REFUSED_MAP);
+    CHECK(gil_write(map, m, NULL, 0, 0, one, 1, 1, 1) == GIL_REFUSED_PIECE);
+    CHECK(gil_write(map, m, image, n, 0, NULL, 0, 1, 1) == GIL_REFUSED_PIECE);
+    CHECK(gil_write(map, m, NULL, 0, 0, NULL, 0, 1, 1) == GIL_REFUSED_PIECE);
+    CHECK(gil_write(NULL, 0, NULL, 0, 0, NULL, 0, 1, 1) == GIL_REFUSED_MAP);
     CHECK(memcmp(table, zeros, t) == 0 && memcmp(events, zeros, e) == 0 && image[0] == 0);
 }
 
@@ -527,15 +666,15 @@ static void deep_calls(void)
     memset(log_bytes, 0, l);
     memset(piece, 7, n);
     /* a piece of 100 KB over one run, and over 1,000 runs of which it owns every other one */
-    CHECK(note(m, l, 0, n, 1) == 0 && gil_write(map, m, image, n, 0, piece, n, 1) == 0);
+    CHECK(note(m, l, 0, n, 1, 1) == 0 && gil_write(map, m, image, n, 0, piece, n, 1, 1) == 0);
     CHECK(image[0] == 7 && image[n - 1] == 7);
     for (uint64_t i = 0; i < 500; i++)
-        CHECK(note(m, l, 200 * i, 100, 2 + i) == 0);
-    CHECK(gil_count(map) == 1000 && gil_write(map, m, image, n, 0, piece, n, 1) == 0);
+        CHECK(note(m, l, 200 * i, 100, 1 + i % 2, 2 + i) == 0);
+    CHECK(gil_count(map) == 1000 && gil_write(map, m, image, n, 0, piece, n, 1, 1) == 0);
     /* a note that meets every run, and a restart and a compaction of the log when it is full, which draw them again */
-    CHECK(note(m, l, 1, n - 1, 500) == 0 && note(m, l, 0, n, 1) == 0);
+    CHECK(note(m, l, 1, n - 1, 2, 400) == 0 && note(m, l, 0, n, 1, 1) == 0);
     while (gil_count(log_bytes) < GIL_MAX_ENTRIES)
-        CHECK(note(m, l, 2 * (uint64_t)gil_count(log_bytes), 1, 500) == 0);
+        CHECK(note(m, l, 2 * (uint64_t)gil_count(log_bytes), 1, 2, 400) == 0);
     CHECK(gil_restart(map, m, log_bytes, l) == 0 && gil_compact(log_bytes, l, new_log, l) == 0);
     for (size_t i = 0; i < GIL_MAX_ENTRIES; i++) {
         put_u32(log_bytes + gil_entry_place(i) + 4, 2 * (uint64_t)(i % GIL_MAX_RUNS));
@@ -543,7 +682,7 @@ static void deep_calls(void)
     }
     CHECK(gil_restart(map, m, log_bytes, l) == 0 && gil_count(map) == GIL_MAX_RUNS);
     CHECK(gil_compact(log_bytes, l, new_log, l) == 0 && gil_count(new_log) == GIL_MAX_RUNS);
-    CHECK(note(m, l, 0, n, GIL_HIGHEST) == GIL_REFUSED_ENTRIES);
+    CHECK(note(m, l, 0, n, GIL_HIGHEST, GIL_HIGHEST_PASS) == GIL_REFUSED_ENTRIES);
     /* an acknowledge that grants 254 requests, and a request, a refused downgrade and a release among 256 records */
     memset(table, 0, t);
     CHECK(ask(t, e, 0, 0, GIL_MODE_NBW, 0, 9) == 0);
@@ -571,6 +710,8 @@ static void *everything(void *nothing)
     name_handle("gil_downgrade", gil_downgrade, GIL_MODE_PW, 1);
     name_handle("gil_release", gil_release, GIL_MODE_PR, 0);
     stripe();
+    passes();
+    without_passes();
     compact();
     pieces();
     quiet();

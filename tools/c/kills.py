@@ -1,12 +1,13 @@
 """Kills the example daemon with SIGKILL at random places, and checks what it leaves.
 
-    kills.py --compact-at N [--seed N] [--kills N] [--turns N] [--seconds N] [--inside | --power] [--long-logs]
-             [--only-the-end] DAEMON..
+    kills.py --compact-at N [--seed N] [--kills N] [--turns N] [--late N] [--seconds N] [--inside | --power]
+             [--long-logs] [--only-the-end] DAEMON..
     (DAEMON.. are the words that start the daemon, which is compiled with -DCOMPACT_AT=N)
 
 A run begins with an empty log and an image of its own. Clients note, write and flush pieces in any order and again; the
 daemon is killed, looked at, and started again. When its log has so many entries, the next note compacts it first, and
-turns to the new log. This file keeps its own account of the stripe, byte by byte, from documents 01 and 02. After each kill
+turns to the new log. Under one lock there are pieces of several passes, over the same bytes and with other content. This
+file keeps its own account of the stripe, byte by byte, from documents 01 and 02. After each kill
 
   - the word names the log that was turned to last, at most that of the turn that was cut;
   - this log holds the runs of the map at that turn, rising, then the entries of the pieces noted since, in note order, at
@@ -14,8 +15,12 @@ turns to the new log. This file keeps its own account of the stripe, byte by byt
   - the image is as the account has it, but for bytes that the write that was cut would store.
 
 At the end of a run, after all kills, each piece that was noted and had no write accepted, or whose last accepted write was
-cut, is written until that is answered. Then each byte under a noted piece must be that of the noted piece with the greatest
-number there, and every other byte as it began. --only-the-end leaves out the checks before.
+cut, is written until that is answered. The last that come are older passes, which are flushed again. Then each byte under a
+noted piece must be that of the noted piece with the greatest number there, and among those of that number the greatest
+pass, and every other byte as it began. --only-the-end leaves out the checks before.
+
+A resend is late where a later pass of its lock is written already and owns a byte of it: it must not beat that one. Late
+resends come all the time, also after a kill and after a turn that followed the later pass's write. They are counted.
 
 Pieces are small, large and larger, so maps have few runs, and so have the logs that are turned to. With --long-logs all
 pieces are small, and a run begins with so many of them that its logs stay nearly as long as one that is compacted. At its
@@ -26,9 +31,10 @@ two of its stores. With --power it loses power or kills itself, as powercut.c ha
 loss of power at the next start, before the answer of its restart: then the command that was cut is looked at again. Each
 kill is counted by the place that it found, as the files show it (PLACES).
 
-Runs are played until there were so many kills, so many turns, and a kill in each place; without --inside, where some places
-are met by luck alone, one at a restart, one in a note, one in a turn and one in a write. Where so many seconds are not
-enough for that, it has failed. What is wrong ends it with status 10.
+Runs are played until there were so many kills, so many turns, so many late resends, as many after a kill and after a turn,
+and a kill in each place; without --inside, where some places are met by luck alone, one at a restart, one in a note, one
+in a turn and one in a write. Where so many seconds are not enough for that, it has failed. What is wrong ends it with
+status 10.
 """
 import argparse
 import copy
@@ -48,9 +54,13 @@ STARTS = 14  # of the daemon in a run; in all but the first it is killed
 LINES = 60  # commands that wait for a daemon that is going to be killed
 LETTERS = bytes(range(33, 123)) * (LENGTH // 90 + 2)
 WRONG = 10
-COUNT, ENTRY = struct.Struct(">I"), struct.Struct(">QQI")  # the log is a count, and entries of first, last, number
+COUNT, ENTRY = struct.Struct(">I"), struct.Struct(">QQII")  # the log is a count, and entries of first, last, number, pass
 LOG_BYTES = COUNT.size + 2048 * ENTRY.size
 LOGS = ["log", "log2"]  # as the word in the file turn names them, 0 and 1
+NUMBERS = [*range(1, 2 * STARTS - 3), 255, 256, 65_536, 4_294_967_295]  # of the locks: two are new at each start
+PASSES = 3  # of a lock: 1, and others of these
+LATER = [2, 3, 255, 256, 65_536, 4_294_967_295]
+LATE = ["late resends", "late resends after a kill", "late resends after a turn"]
 PLACES = [
     "at a restart",
     "amid the new log of a turn",
@@ -69,21 +79,29 @@ class Wrong(Exception):
     pass
 
 
+def pairs_of(chance):
+    """The pairs of a run, (number, pass), rising: by number first, and by pass second. The rank of a pair is its place from
+    1 on, so that a greater pair has a greater rank; 0 is that of a byte in no run."""
+    return sorted((number, pass_) for number in NUMBERS for pass_ in [1, *chance.sample(LATER, PASSES - 1)])
+
+
 class Piece:
-    def __init__(self, first, length, number):
-        self.first, self.end, self.number = first, first + length, number
-        # Numbers stay below 90. So pieces of equal number agree wherever they overlap, and others differ in every byte.
-        self.bytes = LETTERS[number + first : number + self.end]
-        self.entry = ENTRY.pack(first, self.end - 1, number)
+    def __init__(self, first, length, rank, pairs):
+        self.first, self.end, self.rank = first, first + length, rank
+        self.pair = pairs[rank - 1]
+        self.number, self.pass_ = self.pair
+        # Ranks stay below 90. So pieces of equal pairs agree wherever they overlap, and others differ in every byte.
+        self.bytes = LETTERS[rank + first : rank + self.end]
+        self.entry = ENTRY.pack(first, self.end - 1, *self.pair)
         self.lines = {
-            "note": b"note %d %d %d\n" % (first, length, number),
-            "write": b"write %d %d %s\n" % (first, number, self.bytes),
-            "flush": b"flush %d %d %s\n" % (first, number, self.bytes),
+            "note": b"note %d %d %d %d\n" % (first, length, *self.pair),
+            "write": b"write %d %d %d %s\n" % (first, *self.pair, self.bytes),
+            "flush": b"flush %d %d %d %s\n" % (first, *self.pair, self.bytes),
             "restart": b"restart\n",
         }
 
     def __str__(self):
-        return f"[{self.first},{self.end - 1}] number {self.number}"
+        return f"[{self.first},{self.end - 1}] number {self.number} pass {self.pass_}"
 
 
 def log_of(entries):
@@ -98,10 +116,10 @@ def whole(log):
 class Stripe:
     """What documents 01 and 02 say of the stripe after the calls so far."""
 
-    def __init__(self, began, compact_at):
-        self.began, self.compact_at = began, compact_at
+    def __init__(self, began, compact_at, pairs):
+        self.began, self.compact_at, self.pairs = began, compact_at, pairs
         self.image = bytearray(began)
-        self.numbers = bytearray(LENGTH)  # the map: the number of each byte
+        self.ranks = bytearray(LENGTH)  # the map: the rank of each byte's pair
         self.noted = []
         self.entries = []  # of the log
         self.word, self.turns = 0, 0  # which log it is, and how often it was turned to another
@@ -112,9 +130,9 @@ class Stripe:
         return len(self.entries) >= self.compact_at
 
     def runs(self):
-        """The runs of the map, as entries: the longest stretches of bytes with one number, but for those with 0."""
-        stretches = re.finditer(rb"([^\0])\1*", self.numbers, re.DOTALL)
-        return [ENTRY.pack(stretch.start(), stretch.end() - 1, stretch[1][0]) for stretch in stretches]
+        """The runs of the map, as entries: the longest stretches of bytes with one pair, but for those with none."""
+        stretches = re.finditer(rb"([^\0])\1*", self.ranks, re.DOTALL)
+        return [ENTRY.pack(stretch.start(), stretch.end() - 1, *self.pairs[stretch[1][0] - 1]) for stretch in stretches]
 
     def turn(self):
         self.other = log_of(self.entries)
@@ -122,18 +140,18 @@ class Stripe:
         self.word, self.turns = 1 - self.word, self.turns + 1
 
     def note(self, piece):
-        greater = bytes(max(number, piece.number) for number in range(256))
-        self.numbers[piece.first : piece.end] = self.numbers[piece.first : piece.end].translate(greater)
+        greater = bytes(max(rank, piece.rank) for rank in range(256))
+        self.ranks[piece.first : piece.end] = self.ranks[piece.first : piece.end].translate(greater)
         self.noted.append(piece)
         self.entries.append(piece.entry)
 
     def refuses(self, piece):
         """Whether a write of this piece is refused, with 18."""
-        return min(self.numbers[piece.first : piece.end]) < piece.number
+        return min(self.ranks[piece.first : piece.end]) < piece.rank
 
     def after(self, piece, data):
-        """The piece's stretch of the image after these bytes are stored where the map's number is the piece's."""
-        equal = self.numbers[piece.first : piece.end].translate(bytes(255 * (n == piece.number) for n in range(256)))
+        """The piece's stretch of the image after these bytes are stored where the map's pair is the piece's."""
+        equal = self.ranks[piece.first : piece.end].translate(bytes(255 * (rank == piece.rank) for rank in range(256)))
         other = equal.translate(bytes(range(255, -1, -1)))
         masks = ((data, equal), (self.image[piece.first : piece.end], other))
         stored, kept = (int.from_bytes(a, "big") & int.from_bytes(b, "big") for a, b in masks)
@@ -141,7 +159,7 @@ class Stripe:
 
     def copy(self):
         other = copy.copy(self)
-        other.image, other.numbers = self.image[:], self.numbers[:]
+        other.image, other.ranks = self.image[:], self.ranks[:]
         other.noted, other.entries = self.noted[:], self.entries[:]
         return other
 
@@ -149,9 +167,10 @@ class Stripe:
         self.image[piece.first : piece.end] = self.after(piece, data)
 
     def owed(self):
-        """The image that is owed once every noted piece is written: greater numbers lie over smaller ones."""
+        """The image that is owed once every noted piece is written: greater numbers lie over smaller ones, and greater
+        passes of one number over smaller ones."""
         image = bytearray(self.began)
-        for piece in sorted(self.noted, key=lambda piece: piece.number):
+        for piece in sorted(self.noted, key=lambda piece: (piece.number, piece.pass_)):
             image[piece.first : piece.end] = piece.bytes
         return image
 
@@ -162,9 +181,9 @@ class Run:
         self.inside, self.power = options.inside, options.power
         self.chance, self.directory, self.seen = chance, directory, seen
         began = bytes(chance.randrange(128, 256) for _ in range(1000)) * (LENGTH // 1000 + 1)
-        self.stripe = Stripe(began[:LENGTH], options.compact_at)
+        self.stripe = Stripe(began[:LENGTH], options.compact_at, pairs_of(chance))
         self.store("image", self.stripe.began)
-        self.written = set()  # pieces whose last accepted write ran to its end
+        self.written = {}  # pieces whose last accepted write ran to its end, and how many kills and turns there were then
         self.unfinished = []  # pieces whose last accepted write was cut
         self.found = {}  # the logs as the daemon found them
         self.cut = None  # the command that was cut last, and the stripe and the logs before it
@@ -201,10 +220,10 @@ class Run:
         if process.returncode not in ((0, -signal.SIGKILL) if kill else (0,)):
             raise Wrong(f"the daemon ended with status {process.returncode} and {answers[-1:]}")
         killed = process.returncode != 0
-        self.seen["kills"] += killed
         answers = [int(answer.split()[0]) for answer in answers]
         for (name, piece), answer in zip(commands, answers[1:]):
             self.account(name, piece, answer)
+        self.seen["kills"] += killed
         answered = max(0, len(answers) - 1)
         if process.returncode == 0 and answered < len(commands):
             raise Wrong(f"the daemon left {len(commands) - answered} commands without an answer")
@@ -231,9 +250,19 @@ class Run:
         if answer != right:
             raise Wrong(f"{name} of {piece} answered {answer}, not {right}")
         if name in ("write", "flush") and right == 0:
+            if piece in self.written or piece in self.unfinished:
+                times = [self.written[other] for other in self.later(piece)]
+                killed, turned = (t[0] < self.seen["kills"] for t in times), (t[1] < self.stripe.turns for t in times)
+                self.seen.update(dict(zip(LATE, (bool(times), any(killed), any(turned)))))
             self.stripe.write(piece, piece.bytes)
-            self.written.add(piece)
+            self.written[piece] = self.seen["kills"], self.stripe.turns
             self.unfinished = [other for other in self.unfinished if other is not piece]
+
+    def later(self, piece):
+        """The pieces of later passes of its lock that are written and own a byte of it."""
+        ranks = self.stripe.ranks
+        passes = [other for other in self.written if other.number == piece.number and other.pass_ > piece.pass_]
+        return [other for other in passes if other.rank in ranks[max(piece.first, other.first) : min(piece.end, other.end)]]
 
     def look(self, name, piece):
         """The daemon has ended, perhaps amid this command. Word and log say whether its turn or its note was cut. Answers
@@ -269,7 +298,7 @@ class Run:
             places.append(place)
         if writing:
             self.unfinished.append(piece)
-            self.written.discard(piece)
+            self.written.pop(piece, None)
             now, old = image[piece.first : piece.end], bytes(stripe.image[piece.first : piece.end])
             done = stripe.after(piece, piece.bytes)
             if old != done:
@@ -286,18 +315,28 @@ class Run:
         stripe.word, stripe.entries = word, [log[i : i + ENTRY.size] for i in range(COUNT.size, end, ENTRY.size)]
         return places
 
+    def flushes(self, start, most):
+        """Three pieces of a lock, of any of its passes: over the same bytes, or near them. Some locks are older than what
+        is noted."""
+        chance = self.chance
+        lock = chance.randint(max(0, 2 * start - 3), 2 * start + 1)
+        about = first = chance.randrange(LENGTH)
+        length = chance.randint(1, min(most, LENGTH - first))
+        for _ in range(3):
+            yield Piece(first, length, PASSES * lock + chance.randint(1, PASSES), self.stripe.pairs)
+            if chance.randrange(2):
+                first = min(max(0, about + chance.randint(-most // 3, most // 3)), LENGTH - 1)
+                length = chance.randint(1, min(most, LENGTH - first))
+
     def play(self):
-        chance, pieces, weights = self.chance, [], []
+        chance, pieces = self.chance, []
         for start in range(STARTS):
-            # New pieces, of which some are older than what is noted; and commands, which are mostly theirs.
+            # New pieces, and commands, which are mostly theirs; of old pieces, more often those that are late.
+            weights = [5 if self.later(piece) else 1 for piece in pieces]
             fill, full = self.long_logs and start == 0, self.stripe.compact_at
-            many = chance.randint(full * 7 // 10, full) if fill else 12
-            for i in range(many):
-                most = 9 if self.long_logs else (9, 5_000, 150_000)[i % 3]
-                first = chance.randrange(LENGTH)
-                number = chance.randint(max(1, 6 * start - 10), 6 * start + 6)
-                pieces.append(Piece(first, chance.randint(1, min(most, LENGTH - first)), number))
-            weights = [1] * len(weights) + [10] * many
+            for i in range(chance.randint(full // 2, full * 2 // 3) if fill else 4):
+                pieces += self.flushes(start, 9 if self.long_logs else (9, 5_000, 150_000)[(start + i) % 3])
+            weights += [10] * (len(pieces) - len(weights))
             names = chance.choices(("note", "write", "flush", "restart"), (4, 6, 6, 1), k=LINES)
             commands = list(zip(names, chance.choices(pieces, weights, k=LINES)))
             if fill:
@@ -308,6 +347,11 @@ class Run:
         chance.shuffle(rest)
         for kill in (True, True, False):
             rest = rest[self.serve([("write", piece) for piece in rest], kill) :]
+        late = [piece for piece in pieces if piece in self.written and self.later(piece)]
+        if late:
+            commands = [("flush", piece) for piece in chance.choices(late, k=LINES // 2)]
+            for kill in (True, False):
+                self.serve(commands, kill)
         compare("at the end", self.stored("image"), self.stripe.owed())
         self.seen["turns"] += self.stripe.turns
 
@@ -329,6 +373,7 @@ def main():
     parser.add_argument("--seed", type=int, default=int.from_bytes(os.urandom(4), "big"))
     parser.add_argument("--kills", type=int, default=300)
     parser.add_argument("--turns", type=int, default=50)
+    parser.add_argument("--late", type=int, default=200)
     parser.add_argument("--seconds", type=float, default=60)
     parser.add_argument("--inside", action="store_true")
     parser.add_argument("--power", action="store_true")
@@ -342,7 +387,7 @@ def main():
 
     def missing():
         """What was asked for and has not come yet."""
-        asked = {"kills": options.kills, "turns": options.turns}
+        asked = {"kills": options.kills, "turns": options.turns, **dict.fromkeys(LATE, options.late)}
         few = [f"only {seen[what]} {what} of {number}" for what, number in asked.items() if seen[what] < number]
         return few + [f"no kill {end}" for end in needed if not any(seen[place] for place in PLACES if place.endswith(end))]
 
@@ -356,7 +401,8 @@ def main():
         sys.exit(WRONG)
     places = ", ".join(f"{seen[place]} {place}" for place in PLACES)
     spent = f"{time.perf_counter() - begun:.0f} s, {seen['turns']} turns"
-    print(f"kills: {seen['kills']} in {runs} runs, {spent}: {places}; all images right", file=sys.stderr)
+    late = ", ".join(f"{seen[what]} {what}" for what in LATE)
+    print(f"kills: {seen['kills']} in {runs} runs, {spent}: {places}; {late}; all images right", file=sys.stderr)
     if missing():
         sys.exit(f"kills: FAILED: {', '.join(missing())} in {options.seconds:.0f} s")
 

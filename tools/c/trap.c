@@ -21,13 +21,13 @@
 #endif
 
 uint64_t WRITE(const uint8_t *map, size_t map_len, uint8_t *image, size_t image_len, uint64_t first,
-               const uint8_t *piece, size_t piece_len, uint64_t number);
+               const uint8_t *piece, size_t piece_len, uint64_t number, uint64_t pass);
 uint64_t __wrap_gil_write(const uint8_t *map, size_t map_len, uint8_t *image, size_t image_len, uint64_t first,
-                          const uint8_t *piece, size_t piece_len, uint64_t number);
+                          const uint8_t *piece, size_t piece_len, uint64_t number, uint64_t pass);
 uint64_t __real_gil_note(uint8_t *map, size_t map_len, uint8_t *log, size_t log_len, uint64_t first, uint64_t length,
-                         uint64_t number, uint64_t image_length);
+                         uint64_t number, uint64_t pass, uint64_t image_length);
 uint64_t __wrap_gil_note(uint8_t *map, size_t map_len, uint8_t *log, size_t log_len, uint64_t first, uint64_t length,
-                         uint64_t number, uint64_t image_length);
+                         uint64_t number, uint64_t pass, uint64_t image_length);
 uint64_t __real_gil_restart(uint8_t *map, size_t map_len, const uint8_t *log, size_t log_len);
 uint64_t __wrap_gil_restart(uint8_t *map, size_t map_len, const uint8_t *log, size_t log_len);
 uint64_t __real_gil_compact(const uint8_t *old_log, size_t old_len, uint8_t *new_log, size_t new_len);
@@ -39,7 +39,7 @@ int __wrap_msync(void *address, size_t length, int flags);
 
 /* Where a kill comes, and how often it is passed at most before that. */
 enum place { RESTART, NOTE, ENTRY, COUNT, BEFORE_WRITE, PAGE, WRITTEN, LOG_PAGE, NEW_LOG, TURN, PLACES };
-static const int most[PLACES] = {4, 40, 20, 20, 20, 120, 20, 12, 1, 1};
+static const int most[PLACES] = {4, 40, 20, 20, 20, 120, 20, 14, 1, 1};
 
 /* What a call stores to page by page, and the place that each page is. */
 static struct {
@@ -52,7 +52,7 @@ static size_t image_length, page;
 static int restarted; /* what is waited for before the first restart is none of the places */
 
 /* The program is at this place. */
-static void pass(enum place at)
+static void at(enum place reached)
 {
     static int chosen = -1, left;
     if (chosen < 0) {
@@ -62,7 +62,7 @@ static void pass(enum place at)
         chosen = chosen < PLACES ? chosen : PAGE; /* most often amid the bytes of a write */
         left = seed == NULL || strcmp(seed, "0") == 0 ? -1 : rand() % most[chosen];
     }
-    if ((int)at == chosen && left-- == 0)
+    if ((int)reached == chosen && left-- == 0)
         raise(SIGKILL);
 }
 
@@ -74,7 +74,7 @@ static void next_page(int signal, siginfo_t *fault, void *context)
     (void)context;
     if (address < lent.at || address >= lent.at + lent.length)
         abort();
-    pass(lent.page);
+    at(lent.page);
     stored = lent.at + (size_t)(address - lent.at) / page * page;
     if (lent.open_pages[0] != NULL && lent.open_pages[0] != stored)
         mprotect(lent.open_pages[0], page, PROT_READ);
@@ -105,13 +105,13 @@ static void take_back(void)
 }
 
 uint64_t __wrap_gil_write(const uint8_t *map, size_t map_len, uint8_t *image, size_t image_len, uint64_t first,
-                          const uint8_t *piece, size_t piece_len, uint64_t number)
+                          const uint8_t *piece, size_t piece_len, uint64_t number, uint64_t pass)
 {
     image_at = image;
     image_length = image_len;
-    pass(BEFORE_WRITE);
+    at(BEFORE_WRITE);
     lend(image, image_len, PAGE);
-    uint64_t refusal = WRITE(map, map_len, image, image_len, first, piece, piece_len, number);
+    uint64_t refusal = WRITE(map, map_len, image, image_len, first, piece, piece_len, number, pass);
     take_back();
     return refusal;
 }
@@ -126,19 +126,19 @@ uint64_t __wrap_gil_compact(const uint8_t *old_log, size_t old_len, uint8_t *new
 }
 
 uint64_t __wrap_gil_note(uint8_t *map, size_t map_len, uint8_t *log, size_t log_len, uint64_t first, uint64_t length,
-                         uint64_t number, uint64_t image_len)
+                         uint64_t number, uint64_t pass, uint64_t image_len)
 {
-    pass(NOTE);
-    uint64_t refusal = __real_gil_note(map, map_len, log, log_len, first, length, number, image_len);
-    pass(NOTE);
+    at(NOTE);
+    uint64_t refusal = __real_gil_note(map, map_len, log, log_len, first, length, number, pass, image_len);
+    at(NOTE);
     return refusal;
 }
 
 uint64_t __wrap_gil_restart(uint8_t *map, size_t map_len, const uint8_t *log, size_t log_len)
 {
-    pass(RESTART);
+    at(RESTART);
     uint64_t refusal = __real_gil_restart(map, map_len, log, log_len);
-    pass(RESTART);
+    at(RESTART);
     restarted = 1;
     return refusal;
 }
@@ -157,8 +157,8 @@ int __wrap_msync(void *address, size_t length, int flags)
 {
     uint8_t *stored = address;
     if (image_at != NULL && stored >= image_at && stored < image_at + image_length)
-        pass(WRITTEN);
+        at(WRITTEN);
     else if (restarted)
-        pass(stored == turn_at ? TURN : length == GIL_LOG_BYTES ? NEW_LOG : length == sizeof(uint32_t) ? COUNT : ENTRY);
+        at(stored == turn_at ? TURN : length == GIL_LOG_BYTES ? NEW_LOG : length == sizeof(uint32_t) ? COUNT : ENTRY);
     return __real_msync(address, length, flags);
 }

@@ -11,24 +11,27 @@ import random
 import subprocess
 import sys
 import xdrlib
-from collections import namedtuple
+from collections import Counter, namedtuple
 
 EOF = 9_223_372_036_854_775_807
 PR, NBW, BW, PW = 1, 2, 3, 4
 WAITING, GRANTED, ASKED, CANCELING = 0, 1, 2, 3
 GRANT, REVOCATION = 1, 2
-TABLE, EVENTS, LIST_EVENTS, MAP, LOG = 11_336, 11_268, 22_532, 20_484, 40_964
+TABLE, EVENTS, LIST_EVENTS, MAP, LOG = 11_336, 11_268, 22_532, 24_580, 49_156
+OLD_MAP, OLD_LOG = 20_484, 40_964  # until there were passes
+HIGHEST = 4_294_967_295
 
 Shown = namedtuple("Shown", "handle client stripe mode state number first last")
 Record = namedtuple("Record", "shown mark")
 Event = namedtuple("Event", "kind shown")
 Item = namedtuple("Item", "client stripe mode first last refusal handle events")
-Run = namedtuple("Run", "first last number")
+Run = namedtuple("Run", "first last number pass_")
+OldRun = namedtuple("OldRun", "first last number")
 Table = namedtuple("Table", "issued lasts records")
 
 
 # The layouts, as the documents have them: each structure is its fields in order, each field a uint, a uhyper or a structure.
-LAYOUTS = {Shown: "uuuuuuhh", Record: (Shown, "u"), Event: ("u", Shown), Run: "hhu"}
+LAYOUTS = {Shown: "uuuuuuhh", Record: (Shown, "u"), Event: ("u", Shown), Run: "hhuu", OldRun: "hhu"}
 
 
 def record(*shown, mark=0):
@@ -283,16 +286,27 @@ def listed(messages, chance):
     return len(taken)
 
 
+def pair(run):
+    """Pairs are compared by number first, and by pass second."""
+    return run.number, run.pass_
+
+
 def drawn(entries, length):
-    """The runs of the log's map: the greatest number over each byte, and touching runs of different numbers."""
-    numbers = [max((e.number for e in entries if e.first <= byte <= e.last), default=0) for byte in range(length)]
+    """The runs of the log's map: the greatest pair over each byte, and touching runs of different pairs."""
+    pairs = [max((pair(e) for e in entries if e.first <= byte <= e.last), default=None) for byte in range(length)]
     runs = []
-    for byte, number in enumerate(numbers):
-        if runs and runs[-1].number == number and runs[-1].last == byte - 1:
+    for byte, greatest in enumerate(pairs):
+        if runs and pair(runs[-1]) == greatest and runs[-1].last == byte - 1:
             runs[-1] = runs[-1]._replace(last=byte)
-        elif number > 0:
-            runs.append(Run(byte, byte, number))
+        elif greatest is not None:
+            runs.append(Run(byte, byte, *greatest))
     return runs
+
+
+def any_pair(chance):
+    """Few numbers and few passes, so that each comes often; or any."""
+    few, all_ = (1, 5), (1, HIGHEST)
+    return chance.randint(*chance.choice((few, few, all_))), chance.randint(*chance.choice((few, few, all_)))
 
 
 def compacted(caller, log, runs, before):
@@ -315,9 +329,9 @@ def stripe(caller, chance):
     for _ in range(chance.randrange(30)):
         first = chance.randrange(length)
         last = chance.randint(first, length - 1)
-        number = chance.choice((chance.randint(1, 5), chance.randint(1, 4_294_967_295)))
-        same("a note", caller("note", first, last - first + 1, number), 0)
-        entries.append(Run(first, last, number))
+        number, pass_ = any_pair(chance)
+        same("a note", caller("note", first, last - first + 1, number, pass_), 0)
+        entries.append(Run(first, last, number, pass_))
     data = caller.get("log")
     same("the log's entries", decode(Run, data)[0], entries)
     same("the log encoded again", encode(entries) + tail[len(encode(entries)) :], data)
@@ -325,7 +339,7 @@ def stripe(caller, chance):
     compacted(caller, data, drawn(entries, length), tail)
 
     # The other way round: a log in another order and with an entry more, and the map that a restart makes of it.
-    entries.append(Run(chance.randrange(length), EOF, chance.randint(1, 5)))
+    entries.append(Run(chance.randrange(length), EOF, *any_pair(chance)))
     chance.shuffle(entries)
     data = (encode(entries) + tail)[:LOG]
     caller.put("log", data)
@@ -346,67 +360,155 @@ def stripe(caller, chance):
     same("the map after a turn", caller.get("map"), encode_map(owners))
     compacted(caller, encode_log(owners), owners, tail)
 
-    # A map that xdrlib encoded tells a write where to store.
+    # A map that xdrlib encoded tells a write where to store. The piece lies inside of a run, or anywhere.
     caller.put("map", encode_map(runs))
-    number = chance.choice(runs).number
-    wanted = [any(r.first <= byte <= r.last and r.number == number for r in runs) for byte in range(length)]
-    behind = any(all(not r.first <= byte <= r.last or r.number < number for r in runs) for byte in range(length))
-    caller.put("piece", bytes(length))
-    same("a write", caller("write", 0, number), 18 if behind else 0)
-    after = image if behind else bytes(0 if want else byte for want, byte in zip(wanted, image))
-    same("the image after a write", caller.get("image"), after)
+    run = chance.choice([run for run in runs if run.first < length])
+    places = chance.choice((range(length), range(run.first, min(run.last + 1, length))))
+    first, last = sorted(chance.choices(places, k=2))
+    written = chance.choice((pair(run), (run.number, chance.randint(1, 5)), any_pair(chance)))
+    pairs = [max((pair(r) for r in runs if r.first <= byte <= r.last), default=(0, 0)) for byte in range(first, last + 1)]
+    refusal = 18 if min(pairs) < written else 0
+    caller.put("piece", bytes(255 - byte for byte in image[first : last + 1]))
+    same("a write", caller("write", first, *written), refusal)
+    stored = [refusal == 0 and under == written for under in pairs]
+    stretch = bytes(255 - byte if here else byte for byte, here in zip(image[first:], stored))
+    same("the image after a write", caller.get("image"), image[:first] + stretch + image[last + 1 :])
+    beaten = [under for under in pairs if refusal == 0 and under > written]
+    by_pass = any(number == written[0] for number, _ in beaten)
+    by_number = any(number > written[0] for number, _ in beaten)
+    return Counter(refused=int(refusal > 0), stored=int(any(stored)), by_pass=int(by_pass), by_number=int(by_number))
 
 
 def picture(caller):
     """P8 to P10 of document 01, from a log that xdrlib encoded."""
-    a, b, c = Run(0, 5, 2), Run(4, 7, 1), Run(5, 7, 3)
+    a, b, c = Run(0, 5, 2, 1), Run(4, 7, 1, 1), Run(5, 7, 3, 1)
     caller.put("image", b"..........")
     caller.put("log", encode_log([a, b, c]))
     caller.put("map", bytes(MAP))
     same("P8: restart", caller("restart"), 0)
-    same("P8: map", caller.get("map"), encode_map([Run(0, 4, 2), Run(5, 7, 3)]))
+    same("P8: map", caller.get("map"), encode_map([Run(0, 4, 2, 1), Run(5, 7, 3, 1)]))
     for first, bytes_, number in ((5, b"CCC", 3), (0, b"AAAAAA", 2), (4, b"BBBB", 1)):
         caller.put("piece", bytes_)
-        same("P8: write", caller("write", first, number), 0)
+        same("P8: write", caller("write", first, number, 1), 0)
     same("P8: image", caller.get("image"), b"AAAAACCC..")
-    same("P9: note", caller("note", 8, 2, 3), 0)
-    same("P9: map", caller.get("map"), encode_map([Run(0, 4, 2), Run(5, 9, 3)]))
-    log = encode_log([a, b, c, Run(8, 9, 3)])
+    same("P9: note", caller("note", 8, 2, 3, 1), 0)
+    same("P9: map", caller.get("map"), encode_map([Run(0, 4, 2, 1), Run(5, 9, 3, 1)]))
+    log = encode_log([a, b, c, Run(8, 9, 3, 1)])
     same("P9: log", caller.get("log"), log)
-    compacted(caller, log, [Run(0, 4, 2), Run(5, 9, 3)], bytes(LOG))
+    compacted(caller, log, [Run(0, 4, 2, 1), Run(5, 9, 3, 1)], bytes(LOG))
     caller.put("piece", b"DD")
-    same("P10", caller("write", 8, 4), 18)
+    same("P10", caller("write", 8, 4, 1), 18)
+
+    # #103: A's holder flushes again, as pass 2 of number 2; then the first flush is noted and written again, and comes last.
+    again = Run(2, 5, 2, 2)
+    caller.put("piece", b"aaaa")
+    same("a second pass without its note", caller("write", 2, 2, 2), 18)
+    same("a second pass: note", caller("note", 2, 4, 2, 2), 0)
+    same("a second pass: write", caller("write", 2, 2, 2), 0)
+    same("a second pass: image", caller.get("image"), b"AAaaaCCC..")
+    runs = [Run(0, 1, 2, 1), Run(2, 4, 2, 2), Run(5, 9, 3, 1)]
+    same("the first pass again: note", caller("note", 0, 6, 2, 1), 0)
+    same("the first pass again: map", caller.get("map"), encode_map(runs))
+    log = encode_log([a, b, c, Run(8, 9, 3, 1), again, a])
+    same("the first pass again: log", caller.get("log"), log)
+    caller.put("piece", b"AAAAAA")
+    same("the first pass again: write", caller("write", 0, 2, 1), 0)
+    same("the first pass again: image", caller.get("image"), b"AAaaaCCC..")
+    compacted(caller, log, runs, bytes(LOG))
+
+
+def maps(caller):
+    """Maps and logs that xdrlib encoded, sound or not, of the present lengths and of those without passes."""
+    caller.put("image", bytes(10))
+    caller.put("piece", b"x")
+    left = Run(0, 3, 7, 3)
+    cases = [
+        ("touching runs of equal pairs", [left, Run(4, 9, 7, 3)], 12),
+        ("touching runs of one number", [left, Run(4, 9, 7, 4)], 0),
+        ("touching runs of one number, the pass falling", [left, Run(4, 9, 7, 2)], 0),
+        ("touching runs of one pass", [left, Run(4, 9, 6, 3)], 0),
+        ("equal pairs apart", [left, Run(5, 9, 7, 3)], 0),
+        ("a common byte", [left, Run(3, 9, 7, 4)], 12),
+        ("falling runs", [Run(4, 9, 7, 4), left], 12),
+        ("pass 0", [left, Run(5, 9, 7, 0)], 12),
+        ("pass 0 in the first run", [left._replace(pass_=0), Run(5, 9, 7, 1)], 12),
+        ("number 0", [left, Run(5, 9, 0, 7)], 12),
+        ("the highest pass", [left, Run(4, 9, 7, HIGHEST)], 0),
+    ]
+    for what, runs, refusal in cases:
+        caller.put("map", encode_map(runs))
+        same(f"a write on a map with {what}", caller("write", 0, 1, 1), refusal)
+        caller.put("log", encode_log([]))
+        same(f"a note on a map with {what}", caller("note", 0, 1, 1, 1), refusal)
+    good, bad = (1, HIGHEST), (0, HIGHEST + 1, 2**32 + 1, 2**64 - 1)
+    for number, pass_ in [(n, p) for n in good + bad for p in good + bad]:
+        refusal = 15 if number in bad or pass_ in bad else 0
+        caller.put("map", encode_map([]))
+        caller.put("log", encode_log([]))
+        same(f"a note of number {number} and pass {pass_}", caller("note", 0, 1, number, pass_), refusal)
+        noted = [Run(0, 0, number, pass_)] if refusal == 0 else []
+        same(f"the log after number {number} and pass {pass_}", caller.get("log"), encode_log(noted))
+        same(f"the map after number {number} and pass {pass_}", caller.get("map"), encode_map(noted))
+        same(f"a write of number {number} and pass {pass_}", caller("write", 0, number, pass_), refusal)
+    # The lengths of map, log and second log, and the refusals of four calls.
+    lengths = {
+        (MAP, LOG, LOG): [0, 0, 0, 0],
+        (OLD_MAP, LOG, LOG): [12, 0, 12, 12],
+        (MAP, OLD_LOG, LOG): [13, 13, 13, 18],
+        (MAP, LOG, OLD_LOG): [0, 13, 0, 0],
+    }
+    for lent, refusals in lengths.items():
+        for name, length in zip(("map", "log", "new_log"), lent):
+            caller.put(name, bytes(length))
+        calls = ("restart", "compact", "note 0 1 1 1", "write 0 1 1")
+        same(f"the lengths {lent}", [caller(call) for call in calls], refusals)
 
 
 def rooms(caller):
     """Compactions of logs that xdrlib encoded: the most runs, one more, logs that are not sound, and other lengths."""
-    apart = [Run(2 * i, 2 * i, 7) for i in range(1025)]
-    under = [Run(0, EOF, 1)] * 2  # fills the gaps between newer runs, and what is before and after them
-    gaps = [Run(0, 1, 1)] + [Run(2 * i + 1, 2 * i + 1, 1) for i in range(1, 511)] + [Run(1023, EOF, 1)]
+    apart = [Run(2 * i, 2 * i, 7, 1 + i % 3) for i in range(1025)]
+    under = [Run(0, EOF, 1, 1)] * 2  # fills the gaps between newer runs, and what is before and after them
+    gaps = [Run(0, 1, 1, 1)] + [Run(2 * i + 1, 2 * i + 1, 1, 1) for i in range(1, 511)] + [Run(1023, EOF, 1, 1)]
+    again = [Run(2 * i, 2 * i + 1, 7, 4) for i in range(1, 1024)]  # a later pass, which joins what was apart
     cases = [
         ("no entry", encode([]), LOG, 0, []),
         ("1,024 runs", encode(apart[:0:-1]), LOG, 0, apart[1:]),
         ("1,025 runs", encode(apart), LOG, 16, None),
         ("1,025 runs of 514 entries", encode(apart[1:513] + under), LOG, 16, None),
         ("1,023 runs of 513 entries", encode(apart[1:512] + under), LOG, 0, sorted(apart[1:512] + gaps)),
-        ("2,048 entries", encode([Run(5, 6, 4_294_967_295)] * 2048), LOG, 0, [Run(5, 6, 4_294_967_295)]),
-        ("2,049 entries", encode([Run(5, 6, 1)] * 2049), LOG, 13, None),
-        ("number 0", encode([Run(5, 6, 0)]), LOG, 13, None),
-        ("first above last", encode([Run(6, 5, 1)]), LOG, 13, None),
-        ("past EOF", encode([Run(5, EOF + 1, 1)]), LOG, 13, None),
+        ("a later pass over 1,023 runs", encode(again + apart), LOG, 0, [apart[0], Run(2, 2047, 7, 4), apart[1024]]),
+        ("2,048 entries", encode([Run(5, 6, HIGHEST, HIGHEST)] * 2048), LOG, 0, [Run(5, 6, HIGHEST, HIGHEST)]),
+        ("2,049 entries", encode([Run(5, 6, 1, 1)] * 2049), LOG, 13, None),
+        ("number 0", encode([Run(5, 6, 0, 1)]), LOG, 13, None),
+        ("pass 0", encode([Run(5, 6, 1, 1), Run(5, 6, 1, 0)]), LOG, 13, None),
+        ("first above last", encode([Run(6, 5, 1, 1)]), LOG, 13, None),
+        ("past EOF", encode([Run(5, EOF + 1, 1, 1)]), LOG, 13, None),
         ("a second log that is shorter", encode(apart), LOG - 1, 13, None),
         ("a second log that is longer", encode(apart), LOG + 1, 13, None),
     ]
     for what, log, length, refusal, runs in cases:
         caller.put("log", log.ljust(LOG, b"\xee")[:LOG])
-        before = bytes(range(1, 252)) * 164
+        before = bytes(range(1, 252)) * 197
         caller.put("new_log", before[:length])
         same(f"a compaction of {what}", caller("compact"), refusal)
         same(f"the new log of {what}", caller.get("new_log"), before[:length] if runs is None else encode_log(runs))
-    for length in (0, LOG - 1, LOG + 1):
+    for length in (0, OLD_LOG, LOG - 1, LOG + 1):
         caller.put("log", bytes(length))
         caller.put("new_log", bytes(LOG))
         same("a log of another length", caller("compact"), 13)
+
+    # A log without passes goes on as part 3 of the header says: pass 1 after each number, the count as it was, zeros after.
+    old = encode([OldRun(0, 5, 2), OldRun(4, 7, 1), OldRun(5, 7, 3)]).ljust(OLD_LOG, b"\xee")
+    entries, end = decode(OldRun, old)
+    new = old[:4] + b"".join(old[place : place + 20] + bytes([0, 0, 0, 1]) for place in range(4, end, 20))
+    new = new.ljust(LOG, b"\0")
+    same("a log that got its passes", new, encode_log([Run(*entry, 1) for entry in entries]))
+    caller.put("map", bytes(MAP))
+    caller.put("log", old)
+    same("a restart of a log without passes", caller("restart"), 13)
+    caller.put("log", new)
+    same("a restart of a log that got its passes", caller("restart"), 0)
+    same("its map", caller.get("map"), encode_map([Run(0, 4, 2, 1), Run(5, 7, 3, 1)]))
 
 
 def main():
@@ -419,13 +521,16 @@ def main():
     examples(caller)
     lists(caller)
     picture(caller)
+    maps(caller)
     rooms(caller)
     accepted = sum(session(caller, chance, 150) for _ in range(4))
-    for _ in range(150):
-        stripe(caller, chance)
+    writes = sum((stripe(caller, chance) for _ in range(150)), Counter())
     if accepted < 200:
         sys.exit(f"xdr: only {accepted} messages and items were accepted")
-    print(f"xdr: P1 to P4, P8 to P10, lists, {accepted} messages and items, compactions and 150 stripes, both ways the same", file=sys.stderr)
+    for kind in ("refused", "stored", "by_pass", "by_number"):  # the last two are beaten so on some byte
+        if writes[kind] < 5:
+            sys.exit(f"xdr: only {writes[kind]} writes are {kind}")
+    print(f"xdr: P1 to P4, P8 to P10, lists, passes, {accepted} messages and items, compactions and 150 stripes, both ways the same", file=sys.stderr)
 
 
 main()
