@@ -3,6 +3,7 @@
 
 use crate::entries::Item;
 use crate::model::locks::Answer;
+use crate::model::runs::Age;
 use crate::model::serve::Message;
 use crate::model::stripe::Piece;
 use crate::{entries, model, shipped};
@@ -90,11 +91,11 @@ pub const LIBRARY: Calls = Calls {
         answer(entries::release(table, events, client, handle))
     },
     request_list: |table, events, items| answer(entries::request_list(table, events, items)),
-    note: |map, log, Piece { first, bytes, number }, image_length| {
-        entries::note(map, log, first, bytes, number, image_length)
+    note: |map, log, Piece { first, bytes, age: Age { number, pass } }, image_length| {
+        entries::note(map, log, first, bytes, number, pass, image_length)
     },
-    write: |map, image, Piece { first, bytes, number }| {
-        entries::write(map, image, first, bytes, number)
+    write: |map, image, Piece { first, bytes, age: Age { number, pass } }| {
+        entries::write(map, image, first, bytes, number, pass)
     },
     restart: entries::restart,
     compact: entries::compact,

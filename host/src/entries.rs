@@ -17,10 +17,13 @@
 //! assert_eq!(answer, Answer { refusal: 0, handle: 0, events: 2 });
 //! assert_eq!(items.map(|item| (item.refusal, item.handle)), [(0, 2), (4, 0), (0, 3)]);
 //!
-//! let (mut map, mut log) = ([0; 20_484], [0; 40_964]);
-//! assert_eq!(note(&mut map, &mut log, 4, 0, 1, 10), 14);
-//! assert_eq!(note(&mut map, &mut log[1..], 4, 4, 1, 10), 13);
-//! assert_eq!(compact(&log, &mut [0; 40_963]), 13);
+//! // A piece of 4 bytes from byte 4 on, with number 1 and pass 1, of an image of 10 bytes.
+//! let (mut map, mut log) = ([0; 24_580], [0; 49_156]);
+//! assert_eq!(note(&mut map, &mut log, 4, 4, 1, 1, 10), 0);
+//! assert_eq!(note(&mut map, &mut log, 4, 0, 1, 1, 10), 14);
+//! assert_eq!(note(&mut map, &mut log, 4, 4, 1, 0, 10), 15);
+//! assert_eq!(note(&mut map, &mut log[1..], 4, 4, 1, 1, 10), 13);
+//! assert_eq!(compact(&log, &mut [0; 49_155]), 13);
 //! ```
 
 /// A message's answer as C returns it, by value. A refused one has handle 0 and event count 0.
@@ -131,6 +134,7 @@ extern "C" {
         first: u64,
         length: u64,
         number: u64,
+        pass: u64,
         image_length: u64,
     ) -> u64;
     fn gil_write(
@@ -142,6 +146,7 @@ extern "C" {
         piece: *const u8,
         piece_len: usize,
         number: u64,
+        pass: u64,
     ) -> u64;
     fn gil_restart(map: *mut u8, map_len: usize, log: *const u8, log_len: usize) -> u64;
     fn gil_compact(old_log: *const u8, old_len: usize, new_log: *mut u8, new_len: usize) -> u64;
@@ -154,16 +159,24 @@ pub fn note(
     first: u64,
     length: u64,
     number: u64,
+    pass: u64,
     image_length: u64,
 ) -> u64 {
     let (m, l) = (map.as_mut_ptr(), log.as_mut_ptr());
-    unsafe { gil_note(m, map.len(), l, log.len(), first, length, number, image_length) }
+    unsafe { gil_note(m, map.len(), l, log.len(), first, length, number, pass, image_length) }
 }
 
 /// Refused with 12, 14, 15, 18.
-pub fn write(map: &[u8], image: &mut [u8], first: u64, piece: &[u8], number: u64) -> u64 {
+pub fn write(
+    map: &[u8],
+    image: &mut [u8],
+    first: u64,
+    piece: &[u8],
+    number: u64,
+    pass: u64,
+) -> u64 {
     let (m, i, p) = (map.as_ptr(), image.as_mut_ptr(), piece.as_ptr());
-    unsafe { gil_write(m, map.len(), i, image.len(), first, p, piece.len(), number) }
+    unsafe { gil_write(m, map.len(), i, image.len(), first, p, piece.len(), number, pass) }
 }
 
 /// Refused with 12 (length only), 13, 16.

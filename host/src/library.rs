@@ -17,7 +17,7 @@ mod refusal;
 mod runs;
 mod table;
 
-pub use codes::{Handle, Mode, Number, State};
+pub use codes::{Age, Handle, Mode, Number, Pass, State};
 pub use events::{Answer, Event, EventBuffer, Events, Kind, ListEventBuffer};
 pub use item::Item;
 pub use log::Log;

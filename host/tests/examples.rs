@@ -33,9 +33,9 @@ fn table(issued: u32, number: u32, records: &[([u32; 6], u64, u64)]) -> Vec<u8> 
 #[test]
 fn sizes() {
     assert_eq!((TABLE_BYTES, EVENTS_BYTES), (11_336, 11_268));
-    assert_eq!((MAP_BYTES, LOG_BYTES), (20_484, 40_964));
+    assert_eq!((MAP_BYTES, LOG_BYTES), (24_580, 49_156));
     assert_eq!((Table::BYTES, EventBuffer::BYTES), (11_336, 11_268));
-    assert_eq!((Map::BYTES, Log::BYTES), (20_484, 40_964));
+    assert_eq!((Map::BYTES, Log::BYTES), (24_580, 49_156));
 }
 
 /// P1 as document 01 has it, a call a line: the message, and what it is answered.
@@ -122,10 +122,10 @@ fn p6_and_p7() {
     );
 }
 
-/// The pieces of P8.
-const A: Piece<&[u8]> = Piece::new(0, b"AAAAAA", 2);
-const B: Piece<&[u8]> = Piece::new(4, b"BBBB", 1);
-const C: Piece<&[u8]> = Piece::new(5, b"CCC", 3);
+/// The pieces of P8, each of its lock's first pass.
+const A: Piece<&[u8]> = Piece::new(0, b"AAAAAA", 2, 1);
+const B: Piece<&[u8]> = Piece::new(4, b"BBBB", 1, 1);
+const C: Piece<&[u8]> = Piece::new(5, b"CCC", 3, 1);
 const ORDERS: [[Piece<&[u8]>; 3]; 6] =
     [[A, B, C], [A, C, B], [B, A, C], [B, C, A], [C, A, B], [C, B, A]];
 
@@ -142,7 +142,7 @@ fn noted(order: [Piece<&[u8]>; 3]) -> (Vec<u8>, Vec<u8>) {
 fn p8() {
     for order in ORDERS {
         let (map, _) = noted(order);
-        assert!(map == runs(20_484, &[(0, 4, 2), (5, 7, 3)]));
+        assert!(map == runs(24_580, &[(0, 4, 2, 1), (5, 7, 3, 1)]));
         for order in ORDERS {
             let mut image = *b"..........";
             for piece in order {
@@ -157,7 +157,7 @@ fn p8() {
 #[test]
 fn p8_log() {
     let (_, log) = noted([A, B, C]);
-    assert!(log == runs(40_964, &[(0, 5, 2), (4, 7, 1), (5, 7, 3)]));
+    assert!(log == runs(49_156, &[(0, 5, 2, 1), (4, 7, 1, 1), (5, 7, 3, 1)]));
 }
 
 /// Compacted, it has the map's runs.
@@ -167,15 +167,15 @@ fn p8_compacted() {
         let (_, log) = noted(order);
         let mut new_log = vec![0xEE; LOG_BYTES];
         assert_eq!(compact(&log, &mut new_log), 0);
-        assert!(new_log == runs(40_964, &[(0, 4, 2), (5, 7, 3)]));
+        assert!(new_log == runs(49_156, &[(0, 4, 2, 1), (5, 7, 3, 1)]));
     }
 }
 
 #[test]
 fn p9() {
     let (mut map, mut log) = noted([A, B, C]);
-    assert_eq!(note(&mut map, &mut log, Piece::new(8, 2, 3), 10), 0);
-    assert!(map == runs(20_484, &[(0, 4, 2), (5, 9, 3)]));
+    assert_eq!(note(&mut map, &mut log, Piece::new(8, 2, 3, 1), 10), 0);
+    assert!(map == runs(24_580, &[(0, 4, 2, 1), (5, 9, 3, 1)]));
     let mut rebuilt = vec![0xEE; MAP_BYTES];
     assert_eq!(restart(&mut rebuilt, &log), 0);
     assert!(rebuilt == map);
@@ -185,10 +185,10 @@ fn p9() {
 fn p10_and_p11() {
     let (mut map, mut log) = noted([A, B, C]);
     let mut image = *b"..........";
-    assert_eq!(note(&mut map, &mut log, Piece::new(8, 2, 3), 10), 0);
-    assert_eq!(write(&map, &mut image, Piece::new(8, b"DD", 4)), 18);
-    assert_eq!(write(&map, &mut image, Piece::new(8, b"", 3)), 14);
-    assert_eq!(note(&mut map, &mut log, Piece::new(8, 0, 3), 10), 14);
+    assert_eq!(note(&mut map, &mut log, Piece::new(8, 2, 3, 1), 10), 0);
+    assert_eq!(write(&map, &mut image, Piece::new(8, b"DD", 4, 1)), 18);
+    assert_eq!(write(&map, &mut image, Piece::new(8, b"", 3, 1)), 14);
+    assert_eq!(note(&mut map, &mut log, Piece::new(8, 0, 3, 1), 10), 14);
     assert_eq!(&image, b"..........");
 }
 
@@ -215,14 +215,17 @@ fn run_only_records() {
 #[test]
 fn run_only_runs() {
     let (mut map, mut log) = (vec![0; MAP_BYTES], vec![0; LOG_BYTES]);
-    let mut list: Vec<_> = (0..1_024).map(|place| (2 * place, 2 * place, 5)).collect();
-    for (first, _, _) in &list {
-        assert_eq!(note(&mut map, &mut log, Piece::new(*first, 1, 5), 4_096), 0);
+    let mut list: Vec<_> = (0..1_024).map(|place| (2 * place, 2 * place, 5, 1)).collect();
+    for (first, ..) in &list {
+        assert_eq!(note(&mut map, &mut log, Piece::new(*first, 1, 5, 1), 4_096), 0);
     }
-    assert_eq!(note(&mut map, &mut log, Piece::new(2_048, 1, 5), 4_096), 16);
-    assert_eq!(note(&mut map, &mut log, Piece::new(1_000, 1, 5), 4_096), 0);
-    assert!(map == runs(20_484, &list));
-    assert_eq!(note(&mut map, &mut log, Piece::new(1_000, 1, 6), 4_096), 0);
+    assert_eq!(note(&mut map, &mut log, Piece::new(2_048, 1, 5, 1), 4_096), 16);
+    assert_eq!(note(&mut map, &mut log, Piece::new(1_000, 1, 5, 1), 4_096), 0);
+    assert!(map == runs(24_580, &list));
+    assert_eq!(note(&mut map, &mut log, Piece::new(1_000, 1, 6, 1), 4_096), 0);
     list[500].2 = 6;
-    assert!(map == runs(20_484, &list));
+    assert!(map == runs(24_580, &list));
+    assert_eq!(note(&mut map, &mut log, Piece::new(1_000, 1, 6, 2), 4_096), 0);
+    list[500].3 = 2;
+    assert!(map == runs(24_580, &list));
 }

@@ -2,6 +2,7 @@
 
 mod messages;
 
+use gilboreth_host::ages::Ages;
 use gilboreth_host::model::list::LIST_EVENTS_BYTES;
 use gilboreth_host::model::locks::{decode, record_at, EVENTS_BYTES, TABLE_BYTES};
 use gilboreth_host::model::serve::{serve, serve_marked, Message};
@@ -9,8 +10,8 @@ use gilboreth_host::model::stripe::{decode_log, decode_map, LOG_BYTES, MAP_BYTES
 use gilboreth_host::model::{self, modes, runs, stripe, table};
 use gilboreth_host::random::{for_seeds, Random};
 use gilboreth_host::{
-    Answer, Event, EventBuffer, Handle, Item, Kind, ListEventBuffer, Log, Map, Mode, Number, Piece,
-    Record, Refusal, Run, State, Table, EOF,
+    Age, Answer, Event, EventBuffer, Handle, Item, Kind, ListEventBuffer, Log, Map, Mode, Number,
+    Pass, Piece, Record, Refusal, Run, State, Table, EOF,
 };
 use messages::{crowded, message};
 
@@ -18,7 +19,7 @@ use messages::{crowded, message};
 fn sizes() {
     assert_eq!((Table::BYTES, EventBuffer::BYTES), (11_336, 11_268));
     assert_eq!((ListEventBuffer::BYTES, LIST_EVENTS_BYTES), (22_532, 22_532));
-    assert_eq!((Map::BYTES, Log::BYTES), (20_484, 40_964));
+    assert_eq!((Map::BYTES, Log::BYTES), (24_580, 49_156));
     assert_eq!((TABLE_BYTES, EVENTS_BYTES), (Table::BYTES, EventBuffer::BYTES));
     assert_eq!((MAP_BYTES, LOG_BYTES), (Map::BYTES, Log::BYTES));
     assert_eq!(EOF, model::EOF);
@@ -166,35 +167,44 @@ fn lists() {
     });
 }
 
+fn typed(age: runs::Age) -> Age {
+    Age { number: Number(age.number), pass: Pass(age.pass) }
+}
+
+fn run(r: &runs::Run) -> Run {
+    let Age { number, pass } = typed(r.age);
+    Run { first: r.first, last: r.last, number, pass }
+}
+
+fn piece<B>(p: stripe::Piece<B>) -> Piece<B> {
+    let Age { number, pass } = typed(p.age);
+    Piece { first: p.first, bytes: p.bytes, number, pass }
+}
+
 #[test]
 fn stripes() {
     for_seeds(0..50, |random| {
         let (mut map, mut log) = (Map::new(), Log::new());
         let (mut model_map, mut model_log) = (vec![0; MAP_BYTES], vec![0; LOG_BYTES]);
         let mut image = [0; 40];
+        let ages = Ages::few(random);
         for _ in 0..60 {
             let (first, length) = (random.below(40), random.below(12));
-            let (number, old) = (random.below(5), image);
+            let refused = random.once_in(8);
+            let age = if refused { ages.draw_refused(random) } else { ages.draw(random) };
+            let old = image;
             let (answered, expected) = match random.below(10) {
-                0..=3 => (
-                    map.note(&mut log, Piece { first, bytes: length, number: Number(number) }, 40),
-                    stripe::note(
-                        &mut model_map,
-                        &mut model_log,
-                        stripe::Piece::new(first, length, number),
-                        40,
-                    ),
-                ),
+                0..=3 => {
+                    let outline = stripe::Piece { first, bytes: length, age };
+                    let expected = stripe::note(&mut model_map, &mut model_log, outline, 40);
+                    (map.note(&mut log, piece(outline), 40), expected)
+                }
                 4..=7 => {
-                    let piece = vec![random.draw() as u8; length as usize];
+                    let bytes = vec![random.draw() as u8; length as usize];
+                    let whole = stripe::Piece { first, bytes: &bytes[..], age };
                     let mut model_image = old;
-                    let written = map
-                        .write(&mut image, Piece { first, bytes: &piece, number: Number(number) });
-                    let expected = stripe::write(
-                        &model_map,
-                        &mut model_image,
-                        stripe::Piece::new(first, &piece, number),
-                    );
+                    let expected = stripe::write(&model_map, &mut model_image, whole);
+                    let written = map.write(&mut image, piece(whole));
                     assert_eq!(image, model_image);
                     (written, expected)
                 }
@@ -213,8 +223,6 @@ fn stripes() {
             };
             assert_eq!(answered.err().map_or(0, Refusal::number), expected);
             assert!(map.bytes()[..] == model_map && log.bytes()[..] == model_log);
-            let run =
-                |r: &runs::Run| Run { first: r.first, last: r.last, number: Number(r.number) };
             let runs = decode_map(&model_map).unwrap();
             assert!(map.runs().eq(runs.iter().map(run)));
             assert!(log.entries().eq(decode_log(&model_log).unwrap().iter().map(run)));
@@ -222,13 +230,14 @@ fn stripes() {
             assert_eq!(map.pieces_that_fit(), 512 - runs.len());
             for byte in 0..45 {
                 let over = runs.iter().find(|run| run.first <= byte && byte <= run.last);
-                assert_eq!(map.number_at(byte).0, over.map_or(0, |run| run.number));
+                let expected = over.map_or(runs::Age::NONE, |run| run.age);
+                assert_eq!(map.age_at(byte), typed(expected));
             }
         }
     });
 }
 
-const PIECE: Piece<&[u8]> = Piece { first: 0, bytes: b"A", number: Number(1) };
+const PIECE: Piece<&[u8]> = Piece { first: 0, bytes: b"A", number: Number(1), pass: Pass(1) };
 
 /// Any bytes can be looked at. The entries refuse those that aren't sound, and leave them.
 #[test]
@@ -282,11 +291,12 @@ fn records_without_meaning() {
 #[test]
 fn over_the_callers_bytes() {
     let (mut map, mut log) = ([0; MAP_BYTES], [0; LOG_BYTES]);
-    let piece = Piece { first: 2, bytes: 3, number: Number(7) };
+    let piece = Piece { first: 2, bytes: 3, number: Number(7), pass: Pass(8) };
     Map::over(&mut map).note(Log::over(&mut log), piece, 10).unwrap();
     let mut again = Map::new();
     again.restart(&Log::from(log)).unwrap();
     assert!(again.bytes() == &map);
     assert!(log[Log::COUNT] == [0, 0, 0, 1]);
-    assert!(log[Log::entry(0)] == [0, 0, 0, 0, 0, 0, 0, 2, 0, 0, 0, 0, 0, 0, 0, 4, 0, 0, 0, 7]);
+    let (range, age) = ([0, 0, 0, 0, 0, 0, 0, 2, 0, 0, 0, 0, 0, 0, 0, 4], [0, 0, 0, 7, 0, 0, 0, 8]);
+    assert!(log[Log::entry(0)] == [&range[..], &age].concat());
 }

@@ -3,6 +3,7 @@
 
 mod both;
 mod lists;
+mod passes;
 mod piped;
 mod runs;
 mod transcript;
@@ -291,13 +292,13 @@ fn empty() -> (Vec<u8>, Vec<u8>) {
 
 /// A resend after a cut write stores the piece again.
 #[test]
-fn an_equal_number_is_written_again() {
+fn an_equal_age_is_written_again() {
     let (mut map, mut log) = empty();
     let mut image = *b"......";
-    assert_eq!(note(&mut map, &mut log, Piece::new(1, 3, 2), 6), 0);
-    assert_eq!(write(&map, &mut image, Piece::new(1, b"AAA", 2)), 0);
+    assert_eq!(note(&mut map, &mut log, Piece::new(1, 3, 2, 1), 6), 0);
+    assert_eq!(write(&map, &mut image, Piece::new(1, b"AAA", 2, 1)), 0);
     image[1..4].copy_from_slice(b"?A?");
-    assert_eq!(write(&map, &mut image, Piece::new(1, b"AAA", 2)), 0);
+    assert_eq!(write(&map, &mut image, Piece::new(1, b"AAA", 2, 1)), 0);
     assert_eq!(&image, b".AAA..");
 }
 
@@ -306,8 +307,8 @@ fn an_equal_number_is_written_again() {
 fn a_smaller_number_is_accepted_and_not_stored() {
     let (mut map, mut log) = empty();
     let mut image = *b"......";
-    assert_eq!(note(&mut map, &mut log, Piece::new(0, 6, 4), 6), 0);
-    assert_eq!(write(&map, &mut image, Piece::new(0, b"AAAAAA", 3)), 0);
+    assert_eq!(note(&mut map, &mut log, Piece::new(0, 6, 4, 1), 6), 0);
+    assert_eq!(write(&map, &mut image, Piece::new(0, b"AAAAAA", 3, 1)), 0);
     assert_eq!(&image, b"......");
 }
 
@@ -316,9 +317,9 @@ fn a_smaller_number_is_accepted_and_not_stored() {
 fn a_gap_refuses_the_whole_write() {
     let (mut map, mut log) = empty();
     let mut image = *b"......";
-    assert_eq!(note(&mut map, &mut log, Piece::new(0, 5, 2), 6), 0);
-    assert_eq!(write(&map, &mut image, Piece::new(0, b"AAAAAA", 2)), 18);
-    assert_eq!(write(&map, &mut image, Piece::new(5, b"A", 1)), 18);
+    assert_eq!(note(&mut map, &mut log, Piece::new(0, 5, 2, 1), 6), 0);
+    assert_eq!(write(&map, &mut image, Piece::new(0, b"AAAAAA", 2, 1)), 18);
+    assert_eq!(write(&map, &mut image, Piece::new(5, b"A", 1, 1)), 18);
     assert_eq!(&image, b"......");
 }
 
@@ -327,31 +328,31 @@ fn a_gap_refuses_the_whole_write() {
 fn an_old_piece_noted_after_a_restart() {
     let (mut map, mut log) = empty();
     let mut image = *b"..........";
-    assert_eq!(note(&mut map, &mut log, Piece::new(4, 4, 3), 10), 0);
-    assert_eq!(write(&map, &mut image, Piece::new(4, b"NNNN", 3)), 0);
+    assert_eq!(note(&mut map, &mut log, Piece::new(4, 4, 3, 1), 10), 0);
+    assert_eq!(write(&map, &mut image, Piece::new(4, b"NNNN", 3, 1)), 0);
     map.fill(0xEE);
     assert_eq!(restart(&mut map, &log), 0);
-    assert_eq!(note(&mut map, &mut log, Piece::new(0, 10, 2), 10), 0);
-    assert!(map == runs(MAP_BYTES, &[(0, 3, 2), (4, 7, 3), (8, 9, 2)]));
-    assert_eq!(write(&map, &mut image, Piece::new(0, b"OOOOOOOOOO", 2)), 0);
+    assert_eq!(note(&mut map, &mut log, Piece::new(0, 10, 2, 1), 10), 0);
+    assert!(map == runs(MAP_BYTES, &[(0, 3, 2, 1), (4, 7, 3, 1), (8, 9, 2, 1)]));
+    assert_eq!(write(&map, &mut image, Piece::new(0, b"OOOOOOOOOO", 2, 1)), 0);
     assert_eq!(&image, b"OOOONNNNOO");
     map.fill(0xEE);
     assert_eq!(restart(&mut map, &log), 0);
-    assert!(map == runs(MAP_BYTES, &[(0, 3, 2), (4, 7, 3), (8, 9, 2)]));
+    assert!(map == runs(MAP_BYTES, &[(0, 3, 2, 1), (4, 7, 3, 1), (8, 9, 2, 1)]));
 }
 
-/// A note changes the log in its entry's 20 bytes and the count; other bytes past the entries stay.
+/// A note changes the log in its entry's 24 bytes and the count; other bytes past the entries stay.
 #[test]
 fn bytes_after_the_entries_stay() {
-    let mut map = runs(MAP_BYTES, &[(0, 3, 2)]);
-    let mut log = runs(LOG_BYTES, &[(0, 3, 2)]);
+    let mut map = runs(MAP_BYTES, &[(0, 3, 2, 1)]);
+    let mut log = runs(LOG_BYTES, &[(0, 3, 2, 1)]);
     log[run_at(1)..].fill(0xEE);
-    assert_eq!(note(&mut map, &mut log, Piece::new(4, 1, 7), 5), 0);
-    let mut expected = runs(LOG_BYTES, &[(0, 3, 2), (4, 4, 7)]);
+    assert_eq!(note(&mut map, &mut log, Piece::new(4, 1, 7, 9), 5), 0);
+    let mut expected = runs(LOG_BYTES, &[(0, 3, 2, 1), (4, 4, 7, 9)]);
     expected[run_at(2)..].fill(0xEE);
     assert!(log == expected);
     assert_eq!(restart(&mut map, &log), 0);
-    assert!(map == runs(MAP_BYTES, &[(0, 3, 2), (4, 4, 7)]));
+    assert!(map == runs(MAP_BYTES, &[(0, 3, 2, 1), (4, 4, 7, 9)]));
 }
 
 /// No sum of 64-bit numbers wraps, and none is narrowed.
@@ -379,41 +380,43 @@ fn pieces_at_the_limits() {
         (0, 1, 4_294_967_297, 10, 15),
     ] {
         let (mut map, mut log) = empty();
-        let answered = note(&mut map, &mut log, Piece::new(first, length, number), image_length);
+        let answered = note(&mut map, &mut log, Piece::new(first, length, number, 1), image_length);
         assert_eq!(answered, answer, "{first} {length} {number} {image_length}");
-        let noted = (first, first.wrapping_add(length).wrapping_sub(1), number as u32);
+        let noted = (first, first.wrapping_add(length).wrapping_sub(1), number as u32, 1);
         let expected = if answer == 0 { vec![noted] } else { vec![] };
         assert!(map == runs(MAP_BYTES, &expected) && log == runs(LOG_BYTES, &expected));
     }
     let (map, _) = empty();
     let mut image = *b"......";
-    assert_eq!(write(&map, &mut image, Piece::new(MOST, b"A", 1)), 14);
-    assert_eq!(write(&map, &mut image, Piece::new(6, b"A", 1)), 14);
-    assert_eq!(write(&map, &mut image, Piece::new(0, b"A", 4_294_967_297)), 15);
+    assert_eq!(write(&map, &mut image, Piece::new(MOST, b"A", 1, 1)), 14);
+    assert_eq!(write(&map, &mut image, Piece::new(6, b"A", 1, 1)), 14);
+    assert_eq!(write(&map, &mut image, Piece::new(0, b"A", 4_294_967_297, 1)), 15);
 }
 
 /// 1,025 bytes apart need too many runs; one entry over them all needs one.
 #[test]
 fn restart_judges_the_whole_log() {
-    let mut entries: Vec<_> = (0..1_025).map(|place| (2 * place, 2 * place, 1)).collect();
+    let mut entries: Vec<_> = (0..1_025).map(|place| (2 * place, 2 * place, 1, 1)).collect();
     let mut map = vec![0xEE; MAP_BYTES];
     assert_eq!(restart(&mut map, &runs(LOG_BYTES, &entries)), 16);
     assert!(map == vec![0xEE; MAP_BYTES]);
-    entries.push((0, 4_096, 2));
+    entries.push((0, 4_096, 2, 1));
     assert_eq!(restart(&mut map, &runs(LOG_BYTES, &entries)), 0);
-    assert!(map == runs(MAP_BYTES, &[(0, 4_096, 2)]));
+    assert!(map == runs(MAP_BYTES, &[(0, 4_096, 2, 1)]));
 }
 
 /// The entries of a compacted log are the runs of its map, rising: a covered entry goes, a cut one is in
-/// parts, touching ones of one number are one. Zeros stand after them up to the log's end.
+/// parts, touching ones of one age are one. Zeros stand after them up to the log's end.
 #[test]
 fn compaction_leaves_the_runs_of_the_map() {
-    let mut old_log =
-        runs(LOG_BYTES, &[(20, 29, 4), (0, 9, 2), (3, 4, 3), (24, 25, 1), (10, 12, 2), (3, 4, 2)]);
+    let mut old_log = runs(
+        LOG_BYTES,
+        &[(20, 29, 4, 1), (0, 9, 2, 1), (3, 4, 3, 1), (24, 25, 1, 1), (10, 12, 2, 1), (3, 4, 2, 1)],
+    );
     old_log[run_at(6)..].fill(0xEE);
     let mut new_log = vec![0xEE; LOG_BYTES];
     assert_eq!(compact(&old_log, &mut new_log), 0);
-    let expected = runs(LOG_BYTES, &[(0, 2, 2), (3, 4, 3), (5, 12, 2), (20, 29, 4)]);
+    let expected = runs(LOG_BYTES, &[(0, 2, 2, 1), (3, 4, 3, 1), (5, 12, 2, 1), (20, 29, 4, 1)]);
     assert!(new_log == expected);
     old_log.fill(0xEE);
     assert_eq!(compact(&new_log, &mut old_log), 0);
@@ -427,34 +430,35 @@ fn compaction_at_the_ends() {
     let mut new_log = vec![0xEE; LOG_BYTES];
     assert_eq!(compact(&[0; LOG_BYTES], &mut new_log), 0);
     assert!(new_log == vec![0; LOG_BYTES]);
-    let ends = [(0, EOF, 1), (EOF, EOF, 4_294_967_295), (0, 0, 2)];
+    let ends = [(0, EOF, 1, 1), (EOF, EOF, 4_294_967_295, 4_294_967_295), (0, 0, 1, 2)];
     assert_eq!(compact(&runs(LOG_BYTES, &ends), &mut new_log), 0);
-    let expected = [(0, 0, 2), (1, EOF - 1, 1), (EOF, EOF, 4_294_967_295)];
+    let expected = [(0, 0, 1, 2), (1, EOF - 1, 1, 1), (EOF, EOF, 4_294_967_295, 4_294_967_295)];
     assert!(new_log == runs(LOG_BYTES, &expected));
 }
 
 /// 2,048 entries of one run need one entry; then a note is accepted that was refused with 17.
 #[test]
 fn a_full_log_has_room_again() {
-    let (mut map, log) = (runs(MAP_BYTES, &[(0, 0, 1)]), runs(LOG_BYTES, &vec![(0, 0, 1); 2_048]));
-    assert_eq!(note(&mut map, &mut log.clone(), Piece::new(1, 1, 2), 9), 17);
+    let (mut map, log) =
+        (runs(MAP_BYTES, &[(0, 0, 1, 1)]), runs(LOG_BYTES, &vec![(0, 0, 1, 1); 2_048]));
+    assert_eq!(note(&mut map, &mut log.clone(), Piece::new(1, 1, 2, 1), 9), 17);
     let mut new_log = vec![0xEE; LOG_BYTES];
     assert_eq!(compact(&log, &mut new_log), 0);
-    assert_eq!(note(&mut map, &mut new_log, Piece::new(1, 1, 2), 9), 0);
-    assert!(new_log == runs(LOG_BYTES, &[(0, 0, 1), (1, 1, 2)]));
-    assert!(map == runs(MAP_BYTES, &[(0, 0, 1), (1, 1, 2)]));
+    assert_eq!(note(&mut map, &mut new_log, Piece::new(1, 1, 2, 1), 9), 0);
+    assert!(new_log == runs(LOG_BYTES, &[(0, 0, 1, 1), (1, 1, 2, 1)]));
+    assert!(map == runs(MAP_BYTES, &[(0, 0, 1, 1), (1, 1, 2, 1)]));
 }
 
 /// Compaction judges the whole log, as a restart does, and nothing is stored before 16.
 #[test]
 fn compaction_judges_the_whole_log() {
-    let mut entries: Vec<_> = (0..1_025).map(|place| (2 * place, 2 * place, 1)).collect();
+    let mut entries: Vec<_> = (0..1_025).map(|place| (2 * place, 2 * place, 1, 1)).collect();
     let mut new_log = vec![0xEE; LOG_BYTES];
     assert_eq!(compact(&runs(LOG_BYTES, &entries), &mut new_log), 16);
     assert!(new_log == vec![0xEE; LOG_BYTES]);
-    entries.push((0, 4_096, 2));
+    entries.push((0, 4_096, 2, 1));
     assert_eq!(compact(&runs(LOG_BYTES, &entries), &mut new_log), 0);
-    assert!(new_log == runs(LOG_BYTES, &[(0, 4_096, 2)]));
+    assert!(new_log == runs(LOG_BYTES, &[(0, 4_096, 2, 1)]));
 }
 
 /// Why no note may come between the call and the turn: its entry stands in the old log alone. After the
@@ -463,19 +467,19 @@ fn compaction_judges_the_whole_log() {
 fn a_note_between_compaction_and_turn_is_lost() {
     let (mut map, mut log) = empty();
     let mut image = *b"......";
-    assert_eq!(note(&mut map, &mut log, Piece::new(0, 6, 1), 6), 0);
+    assert_eq!(note(&mut map, &mut log, Piece::new(0, 6, 1, 1), 6), 0);
     let mut new_log = vec![0xEE; LOG_BYTES];
     assert_eq!(compact(&log, &mut new_log), 0);
-    assert_eq!(note(&mut map, &mut log, Piece::new(2, 2, 2), 6), 0);
-    assert_eq!(write(&map, &mut image, Piece::new(2, b"LL", 2)), 0);
+    assert_eq!(note(&mut map, &mut log, Piece::new(2, 2, 2, 1), 6), 0);
+    assert_eq!(write(&map, &mut image, Piece::new(2, b"LL", 2, 1)), 0);
     assert_eq!(&image, b"..LL..");
     // The turn to the stale log, and a cut.
     assert_eq!(restart(&mut map, &new_log), 0);
-    assert!(map == runs(MAP_BYTES, &[(0, 5, 1)]));
-    assert_eq!(write(&map, &mut image, Piece::new(0, b"OOOOOO", 1)), 0);
+    assert!(map == runs(MAP_BYTES, &[(0, 5, 1, 1)]));
+    assert_eq!(write(&map, &mut image, Piece::new(0, b"OOOOOO", 1, 1)), 0);
     assert_eq!(&image, b"OOOOOO");
     // Compacted again before the turn, it is kept.
     assert_eq!(compact(&log, &mut new_log), 0);
     assert_eq!(restart(&mut map, &new_log), 0);
-    assert!(map == runs(MAP_BYTES, &[(0, 1, 1), (2, 3, 2), (4, 5, 1)]));
+    assert!(map == runs(MAP_BYTES, &[(0, 1, 1, 1), (2, 3, 2, 1), (4, 5, 1, 1)]));
 }

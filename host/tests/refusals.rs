@@ -148,56 +148,88 @@ fn acknowledge_downgrade_and_release() {
 
 /// Entries or runs of one byte, on every other byte.
 fn apart(length: usize, count: u64) -> Vec<u8> {
-    let list: Vec<_> = (0..count).map(|place| (2 * place, 2 * place, 1)).collect();
+    let list: Vec<_> = (0..count).map(|place| (2 * place, 2 * place, 1, 1)).collect();
     runs(length, &list)
 }
 
 /// A log with this many equal entries.
 fn log(count: usize) -> Vec<u8> {
-    runs(LOG, &vec![(0, 0, 1); count])
+    runs(LOG, &vec![(0, 0, 1, 1); count])
 }
+
+/// An empty map and an empty log as long as they were without passes.
+const OLD_MAP: &[u8] = &[0; 20_484];
+const OLD_LOG: &[u8] = &[0; 40_964];
 
 /// With 1,024 runs and 2,048 entries, a new run is 16 and an old one is 17.
 #[test]
 fn note() {
-    let answers = |refusal: u64, map: &[u8], log: &[u8], first, length, number, image_length| {
+    let answers = |refusal: u64, map: &[u8], log: &[u8], piece: Piece<u64>, image_length| {
         let (mut new_map, mut new_log) = (map.to_vec(), log.to_vec());
-        let answered =
-            both::note(&mut new_map, &mut new_log, Piece::new(first, length, number), image_length);
-        assert_eq!(answered, refusal);
+        let answered = both::note(&mut new_map, &mut new_log, piece, image_length);
+        assert_eq!(answered, refusal, "{piece:?}");
         assert_eq!(new_map == map, refusal != 0);
         assert_eq!(new_log == log, refusal != 0);
     };
-    let map = apart(MAP, 1_024);
-    answers(12, &damaged(map.clone()), &damaged(log(2_048)), 2_048, 0, 0, 4_096);
-    answers(13, &map, &damaged(log(2_048)), 2_048, 0, 0, 4_096);
-    answers(14, &map, &log(2_048), 2_048, 0, 0, 4_096);
-    answers(14, &map, &log(2_048), 2_048, 1, 0, 2_048);
-    answers(15, &map, &log(2_048), 2_048, 1, 0, 4_096);
-    answers(15, &map, &log(2_048), 2_048, 1, 4_294_967_296, 4_096);
-    answers(16, &map, &log(2_048), 2_048, 1, 2, 4_096);
-    answers(16, &map, &log(2_047), 2_048, 1, 2, 4_096);
-    answers(17, &map, &log(2_048), 2_046, 1, 2, 4_096);
-    answers(0, &map, &log(2_047), 2_046, 1, 2, 4_096);
+    let (map, full, nearly) = (apart(MAP, 1_024), log(2_048), log(2_047));
+    answers(12, &damaged(map.clone()), &damaged(full.clone()), Piece::new(2_048, 0, 0, 0), 4_096);
+    answers(12, OLD_MAP, OLD_LOG, Piece::new(2_048, 0, 0, 0), 4_096);
+    answers(12, &runs(MAP, &[(0, 0, 1, 0)]), OLD_LOG, Piece::new(2_048, 0, 0, 0), 4_096);
+    answers(13, &map, &damaged(full.clone()), Piece::new(2_048, 0, 0, 0), 4_096);
+    answers(13, &map, OLD_LOG, Piece::new(2_048, 0, 0, 0), 4_096);
+    answers(13, &map, &runs(LOG, &[(0, 0, 1, 0)]), Piece::new(2_048, 0, 0, 0), 4_096);
+    answers(14, &map, &full, Piece::new(2_048, 0, 0, 0), 4_096);
+    answers(14, &map, &full, Piece::new(2_048, 1, 0, 0), 2_048);
+    for (number, pass) in WRONG {
+        answers(15, &map, &full, Piece::new(2_048, 1, number, pass), 4_096);
+        answers(15, &map, &full, Piece::new(2_046, 1, number, pass), 4_096);
+        answers(15, &map, &nearly, Piece::new(2_048, 1, number, pass), 4_096);
+    }
+    for (number, pass) in [(2, 1), (1, 2)] {
+        answers(16, &map, &full, Piece::new(2_048, 1, number, pass), 4_096);
+        answers(16, &map, &nearly, Piece::new(2_048, 1, number, pass), 4_096);
+        answers(16, &map, &full, Piece::new(2_047, 1, number, pass), 4_096);
+        answers(17, &map, &full, Piece::new(2_046, 1, number, pass), 4_096);
+        answers(0, &map, &nearly, Piece::new(2_046, 1, number, pass), 4_096);
+    }
 }
+
+/// Numbers and passes that are refused with 15.
+const WRONG: [(u64, u64); 7] = [
+    (0, 0),
+    (0, 1),
+    (1, 0),
+    (4_294_967_296, 1),
+    (1, 4_294_967_296),
+    (1, 4_294_967_297),
+    (4_294_967_297, 4_294_967_297),
+];
 
 #[test]
 fn write() {
-    let map = runs(MAP, &[(0, 5, 2)]);
-    let answers = |refusal: u64, map: &[u8], first, piece: &[u8], number, image: &[u8]| {
+    let map = runs(MAP, &[(0, 5, 2, 2)]);
+    let answers = |refusal: u64, map: &[u8], piece: Piece<&[u8]>, image: &[u8]| {
         let mut new_image = *b"......";
-        let answered = both::write(map, &mut new_image, Piece::new(first, piece, number));
-        assert_eq!(answered, refusal);
+        assert_eq!(both::write(map, &mut new_image, piece), refusal, "{piece:?}");
         assert_eq!(new_image, image);
     };
-    answers(12, &damaged(map.clone()), 7, b"AB", 0, b"......");
-    answers(14, &map, 7, b"AB", 0, b"......");
-    answers(14, &map, 5, b"AB", 0, b"......");
-    answers(14, &map, 4, b"", 0, b"......");
-    answers(15, &map, 4, b"AB", 0, b"......");
-    answers(15, &map, 4, b"AB", 4_294_967_298, b"......");
-    answers(18, &map, 4, b"AB", 3, b"......");
-    answers(0, &map, 4, b"AB", 2, b"....AB");
+    answers(12, &damaged(map.clone()), Piece::new(7, b"AB", 0, 0), b"......");
+    answers(12, OLD_MAP, Piece::new(7, b"AB", 0, 0), b"......");
+    answers(12, &runs(MAP, &[(0, 5, 2, 0)]), Piece::new(7, b"AB", 0, 0), b"......");
+    answers(14, &map, Piece::new(7, b"AB", 0, 0), b"......");
+    answers(14, &map, Piece::new(5, b"AB", 2, 0), b"......");
+    answers(14, &map, Piece::new(4, b"", 0, 2), b"......");
+    for (number, pass) in WRONG {
+        answers(15, &map, Piece::new(4, b"AB", number, pass), b"......");
+        answers(15, &runs(MAP, &[]), Piece::new(4, b"AB", number, pass), b"......");
+    }
+    answers(15, &map, Piece::new(4, b"AB", 4_294_967_298, 2), b"......");
+    answers(15, &map, Piece::new(4, b"AB", 2, 4_294_967_298), b"......");
+    answers(18, &map, Piece::new(4, b"AB", 3, 1), b"......");
+    answers(18, &map, Piece::new(4, b"AB", 2, 3), b"......");
+    answers(0, &map, Piece::new(4, b"AB", 2, 1), b"......");
+    answers(0, &map, Piece::new(4, b"AB", 1, 3), b"......");
+    answers(0, &map, Piece::new(4, b"AB", 2, 2), b"....AB");
 }
 
 /// Of the map only the length counts: 0xEE bytes are no sound map.
@@ -210,7 +242,10 @@ fn restart() {
     };
     answers(12, MAP - 1, &damaged(apart(LOG, 1_025)));
     answers(12, MAP + 1, &damaged(apart(LOG, 1_025)));
+    answers(12, OLD_MAP.len(), OLD_LOG);
     answers(13, MAP, &damaged(apart(LOG, 1_025)));
+    answers(13, MAP, OLD_LOG);
+    answers(13, MAP, &runs(LOG, &[(0, 0, 1, 1), (0, 0, 1, 0)]));
     answers(16, MAP, &apart(LOG, 1_025));
     answers(0, MAP, &apart(LOG, 1_024));
 }
@@ -223,14 +258,16 @@ fn compact() {
         assert_eq!(both::compact(old_log, &mut new_log), refusal);
         assert_eq!(new_log == vec![0xEE; length], refusal != 0);
     };
-    let unsound = runs(LOG, &[(0, 0, 1), (0, 0, 0)]);
-    for length in [0, LOG - 1, LOG + 1, MAP] {
+    let unsound = runs(LOG, &[(0, 0, 1, 1), (0, 0, 1, 0)]);
+    for length in [0, LOG - 1, LOG + 1, MAP, OLD_LOG.len()] {
         answers(13, &damaged(apart(LOG, 1_025)), length);
+        answers(13, OLD_LOG, length);
         answers(13, &apart(LOG, 1_025), length);
         answers(13, &apart(LOG, 1_024), length);
         answers(13, &unsound, length);
     }
     answers(13, &[], LOG);
+    answers(13, OLD_LOG, LOG);
     answers(13, &damaged(apart(LOG, 1_025)), LOG);
     answers(13, &apart(LOG, 1_025)[..LOG - 1], LOG);
     answers(13, &unsound, LOG);

@@ -1,10 +1,11 @@
 //! The seam of both halves: a byte under two write grants of a stripe is at the end the later
-//! grant's, in whatever order the flushes arrive, with cuts, restarts and compactions anywhere.
+//! grant's, and under two passes of one grant the later pass's, in whatever order the flushes arrive,
+//! with cuts, restarts and compactions anywhere.
 
 use gilboreth_host::random::{for_seeds, Random};
 use gilboreth_host::{
-    Answer, Event, EventBuffer, Handle, Item, Kind, ListEventBuffer, Log, Map, Mode, Number, Piece,
-    Record, Refusal, Table,
+    Age, Answer, Event, EventBuffer, Handle, Item, Kind, ListEventBuffer, Log, Map, Mode, Number,
+    Pass, Piece, Record, Refusal, Table,
 };
 use std::ops::Range;
 use std::panic::catch_unwind;
@@ -17,19 +18,34 @@ struct Stripe {
     /// What the log was compacted to, with no note since: the log that the server may turn to.
     new_log: Option<Log>,
     turned: usize,
-    /// A wrong server keeps it after a note, too.
-    heedless: bool,
+    wrong: Option<Wrong>,
+}
+
+/// What a wrong server does.
+#[derive(Clone, Copy, PartialEq)]
+enum Wrong {
+    /// It turns to a log that was compacted before a note.
+    Heedless,
+    /// It notes and writes every piece in pass 1.
+    OnePass,
 }
 
 impl Stripe {
     fn new(image: &[u8]) -> Stripe {
         let (map, log, image) = (Map::new(), Log::new(), image.to_vec());
-        Stripe { map, log, image, new_log: None, turned: 0, heedless: false }
+        Stripe { map, log, image, new_log: None, turned: 0, wrong: None }
+    }
+
+    /// The piece as this server takes it.
+    fn taken<'a>(&self, piece: Piece<&'a [u8]>) -> Piece<&'a [u8]> {
+        let pass = if self.wrong == Some(Wrong::OnePass) { Pass(1) } else { piece.pass };
+        Piece { pass, ..piece }
     }
 
     fn note(&mut self, piece: Piece<&[u8]>) -> Result<(), Refusal> {
-        let noted = self.map.note(&mut self.log, piece.outline(), self.image.len() as u64);
-        if noted.is_ok() && !self.heedless {
+        let outline = self.taken(piece).outline();
+        let noted = self.map.note(&mut self.log, outline, self.image.len() as u64);
+        if noted.is_ok() && self.wrong != Some(Wrong::Heedless) {
             self.new_log = None;
         }
         noted
@@ -51,6 +67,7 @@ impl Stripe {
     }
 
     fn write(&mut self, piece: Piece<&[u8]>) -> Result<(), Refusal> {
+        let piece = self.taken(piece);
         self.map.write(&mut self.image, piece)
     }
 
@@ -80,12 +97,12 @@ impl Stripe {
 
     /// A cut in a write leaves anything at the places that it would store.
     fn cut_write(&mut self, piece: Piece<&[u8]>, mut left: impl FnMut() -> u8) {
-        let Piece { first, bytes, number } = piece;
-        let numbers: Vec<Number> =
-            (first..).zip(bytes).map(|(at, _)| self.map.number_at(at)).collect();
-        if numbers.iter().all(|&under| under >= number) {
-            for (place, _) in numbers.iter().enumerate().filter(|(_, &under)| under == number) {
-                self.image[first as usize + place] = left();
+        let age = self.taken(piece).age();
+        let ages: Vec<Age> =
+            (piece.first..).zip(piece.bytes).map(|(at, _)| self.map.age_at(at)).collect();
+        if ages.iter().all(|&under| under >= age) {
+            for (place, _) in ages.iter().enumerate().filter(|(_, &under)| under == age) {
+                self.image[piece.first as usize + place] = left();
             }
         }
         self.cut();
@@ -109,80 +126,122 @@ fn two_grants() -> (Number, Number) {
     (old, later)
 }
 
-/// What client 0 flushes of the whole stripe, and client 1 of the bytes 4 to 7.
-fn flushes() -> (Piece<&'static [u8]>, Piece<&'static [u8]>) {
+/// An old flush of the whole stripe, and a later one of the bytes 4 to 7. Client 0 flushes and then
+/// client 1, each in its first pass, or client 0 in its ninth; or client 0 flushes, keeps its lock and
+/// writes these bytes again.
+fn flushes() -> [[Piece<&'static [u8]>; 2]; 3] {
     let (old, later) = two_grants();
-    let old = Piece { first: 0, bytes: &b"OOOOOOOOOO"[..], number: old };
-    (old, Piece { first: 4, bytes: &b"LLLL"[..], number: later })
+    let whole = |number, pass| Piece { first: 0, bytes: &b"OOOOOOOOOO"[..], number, pass };
+    let part = |number, pass| Piece { first: 4, bytes: &b"LLLL"[..], number, pass };
+    [
+        [whole(old, Pass(1)), part(later, Pass(1))],
+        [whole(old, Pass(9)), part(later, Pass(1))],
+        [whole(old, Pass(1)), part(old, Pass(2))],
+    ]
 }
 
 #[test]
 fn the_old_flush_arrives_last() {
-    let (old, later) = flushes();
-    let mut stripe = Stripe::new(b"..........");
-    stripe.flush(later);
-    stripe.flush(old);
-    assert_eq!(stripe.image, b"OOOOLLLLOO");
+    for [old, later] in flushes() {
+        let mut stripe = Stripe::new(b"..........");
+        stripe.flush(later);
+        stripe.flush(old);
+        assert_eq!(stripe.image, b"OOOOLLLLOO");
+    }
 }
 
 #[test]
 fn the_old_flush_arrives_last_after_a_restart() {
-    let (old, later) = flushes();
-    let mut stripe = Stripe::new(b"..........");
-    stripe.flush(later);
-    stripe.cut();
-    stripe.flush(old);
-    assert_eq!(stripe.image, b"OOOOLLLLOO");
+    for [old, later] in flushes() {
+        let mut stripe = Stripe::new(b"..........");
+        stripe.flush(later);
+        stripe.cut();
+        stripe.flush(old);
+        assert_eq!(stripe.image, b"OOOOLLLLOO");
+    }
+}
+
+/// Both flushes came to their end, and the old one is sent again: noted and written, or written alone, at
+/// once, after a cut, and after a compaction and a cut.
+#[test]
+fn the_old_flush_is_sent_again_last() {
+    for [old, later] in flushes() {
+        let mut stripe = Stripe::new(b"..........");
+        stripe.flush(old);
+        assert_eq!(stripe.image, b"OOOOOOOOOO");
+        stripe.flush(later);
+        assert_eq!(stripe.image, b"OOOOLLLLOO");
+        let befores: [fn(&mut Stripe); 3] = [
+            |_| {},
+            |stripe| stripe.cut(),
+            |stripe| {
+                stripe.compact();
+                stripe.turn();
+                stripe.cut();
+            },
+        ];
+        for before in befores {
+            before(&mut stripe);
+            stripe.write(old).unwrap();
+            assert_eq!(stripe.image, b"OOOOLLLLOO");
+            before(&mut stripe);
+            stripe.flush(old);
+            assert_eq!(stripe.image, b"OOOOLLLLOO");
+        }
+    }
 }
 
 /// The old flush is cut again and again: in its note, before and after the log has its entry, and in
 /// its write. Each time the server comes back and the piece is sent again.
 #[test]
 fn the_old_flush_arrives_last_after_cuts() {
-    let (old, later) = flushes();
-    let mut stripe = Stripe::new(b"..........");
-    stripe.flush(later);
-    stripe.cut_note_and_old_log();
-    stripe.cut_note_and_new_log(old);
-    stripe.cut_write(old, || b'?');
-    assert_eq!(stripe.image, b"????LLLL??");
-    stripe.write(old).unwrap();
-    assert_eq!(stripe.image, b"OOOOLLLLOO");
-}
-
-/// The later grant's write was cut before the old flush arrived. Its place isn't taken.
-#[test]
-fn the_old_flush_arrives_between_a_cut_and_the_resend() {
-    let (old, later) = flushes();
-    let mut stripe = Stripe::new(b"..........");
-    stripe.note(later).unwrap();
-    stripe.cut_write(later, || b'?');
-    stripe.flush(old);
-    assert_eq!(stripe.image, b"OOOO????OO");
-    stripe.write(later).unwrap();
-    assert_eq!(stripe.image, b"OOOOLLLLOO");
-}
-
-/// The log with the later grant's entry is compacted, and a cut finds the old log or the new one.
-#[test]
-fn the_old_flush_arrives_last_after_a_compaction() {
-    for turned in [false, true] {
-        let (old, later) = flushes();
+    for [old, later] in flushes() {
         let mut stripe = Stripe::new(b"..........");
         stripe.flush(later);
-        stripe.compact();
-        if turned {
-            stripe.turn();
-        }
-        stripe.cut();
-        stripe.note(old).unwrap();
-        stripe.compact();
-        stripe.write(old).unwrap();
-        stripe.turn();
-        stripe.cut();
-        assert_eq!(stripe.log.entries().len(), 3);
+        stripe.cut_note_and_old_log();
+        stripe.cut_note_and_new_log(old);
+        stripe.cut_write(old, || b'?');
+        assert_eq!(stripe.image, b"????LLLL??");
         stripe.write(old).unwrap();
         assert_eq!(stripe.image, b"OOOOLLLLOO");
+    }
+}
+
+/// The later flush's write was cut before the old flush arrived. Its place isn't taken.
+#[test]
+fn the_old_flush_arrives_between_a_cut_and_the_resend() {
+    for [old, later] in flushes() {
+        let mut stripe = Stripe::new(b"..........");
+        stripe.note(later).unwrap();
+        stripe.cut_write(later, || b'?');
+        stripe.flush(old);
+        assert_eq!(stripe.image, b"OOOO????OO");
+        stripe.write(later).unwrap();
+        assert_eq!(stripe.image, b"OOOOLLLLOO");
+    }
+}
+
+/// The log with the later flush's entry is compacted, and a cut finds the old log or the new one.
+#[test]
+fn the_old_flush_arrives_last_after_a_compaction() {
+    for [old, later] in flushes() {
+        for turned in [false, true] {
+            let mut stripe = Stripe::new(b"..........");
+            stripe.flush(later);
+            stripe.compact();
+            if turned {
+                stripe.turn();
+            }
+            stripe.cut();
+            stripe.note(old).unwrap();
+            stripe.compact();
+            stripe.write(old).unwrap();
+            stripe.turn();
+            stripe.cut();
+            assert_eq!(stripe.log.entries().len(), 3);
+            stripe.write(old).unwrap();
+            assert_eq!(stripe.image, b"OOOOLLLLOO");
+        }
     }
 }
 
@@ -232,6 +291,7 @@ fn numbered(event: &Event) -> bool {
 struct Flush {
     grant: usize,
     number: Number,
+    pass: u64,
     first: u64,
     bytes: Vec<u8>,
     noted: bool,
@@ -239,26 +299,33 @@ struct Flush {
 
 impl Flush {
     fn piece(&self) -> Piece<&[u8]> {
-        Piece { first: self.first, bytes: &self.bytes, number: self.number }
+        let pass = Pass(self.pass);
+        Piece { first: self.first, bytes: &self.bytes, number: self.number, pass }
+    }
+
+    fn places(&self) -> Range<u64> {
+        self.first..self.first + self.bytes.len() as u64
     }
 }
 
-/// The byte that a grant's holder has at a place. It flushes each byte once, so its pieces agree.
-/// Two of the first hundred grants have different bytes.
-fn byte(grant: usize, place: u64) -> u8 {
-    (grant as u64 + 1 + 100 * (place % 2)) as u8
+/// The byte that a grant's holder has at a place in a pass. It takes the next pass before it writes
+/// anew, so the pieces of one pass agree. Two passes of the first forty grants have different bytes.
+fn byte(grant: usize, pass: u64, place: u64) -> u8 {
+    (3 * grant as u64 + pass + 128 * (place % 2)) as u8
 }
 
-/// One to three pieces of each grant, inside of its range.
+/// One to three passes of each grant, and in each of them one or two pieces, inside of its range.
 fn pieces(random: &mut Random, grants: &[Record]) -> Vec<Flush> {
     let mut pieces = Vec::new();
     for (grant, lock) in grants.iter().enumerate() {
-        let end = (lock.last + 1).min(IMAGE);
-        for _ in 0..1 + random.below(3) {
-            let first = lock.first + random.below(end - lock.first);
-            let last = first + random.below(end - first);
-            let bytes = (first..=last).map(|place| byte(grant, place)).collect();
-            pieces.push(Flush { grant, number: lock.number, first, bytes, noted: false });
+        let (number, end) = (lock.number, (lock.last + 1).min(IMAGE));
+        for pass in 1..=1 + random.below(3) {
+            for _ in 0..1 + random.below(2) {
+                let first = lock.first + random.below(end - lock.first);
+                let last = first + random.below(end - first);
+                let bytes = (first..=last).map(|place| byte(grant, pass, place)).collect();
+                pieces.push(Flush { grant, number, pass, first, bytes, noted: false });
+            }
         }
     }
     pieces
@@ -266,29 +333,42 @@ fn pieces(random: &mut Random, grants: &[Record]) -> Vec<Flush> {
 
 #[test]
 fn flushes_in_any_order() {
-    let (contested, turned) = play(0..1_300, false);
+    let Played { contested, rewritten, turned } = play(0..1_300, None);
     assert!(contested > 10_000, "{contested} bytes under pieces of two grants");
+    assert!(rewritten > 10_000, "{rewritten} bytes under two passes of their last grant");
     assert!(turned > 2_000, "{turned} turns to a new log");
 }
 
-/// A server that turns to a log that was compacted before a note: bytes of the noted piece are lost.
+/// A server that turns to a log that was compacted before a note, by which bytes of the noted piece are
+/// lost; and one that forgets the passes, so that what arrives last wins.
 #[test]
-fn a_note_between_a_compaction_and_its_turn() {
-    assert!(catch_unwind(|| play(0..50, true)).is_err());
-    play(0..50, false);
+fn wrong_servers() {
+    for wrong in [Wrong::Heedless, Wrong::OnePass] {
+        assert!(catch_unwind(|| play(0..50, Some(wrong))).is_err());
+    }
+    play(0..50, None);
+}
+
+#[derive(Default)]
+struct Played {
+    /// How many bytes had pieces of two grants, and how many had pieces of two passes of their last grant.
+    contested: usize,
+    rewritten: usize,
+    /// How often the server turned to a new log.
+    turned: usize,
 }
 
 /// Flushes at random, many of them cut, and compactions. Then the flushes come to their end from the
-/// latest grant to the oldest, each after a cut or not: the older a flush, the later it arrives.
-/// Answers how many bytes had pieces of two grants, and how often the server turned to a new log.
-fn play(seeds: Range<u64>, heedless: bool) -> (usize, usize) {
-    let (mut contested, mut turned) = (0, 0);
+/// latest grant to the oldest, and from its last pass to its first, each after a cut or not: the older a
+/// flush, the later it arrives. Some that were noted are noted again.
+fn play(seeds: Range<u64>, wrong: Option<Wrong>) -> Played {
+    let mut played = Played::default();
     for_seeds(seeds, |random| {
         let grants = grants(random);
         let mut pieces = pieces(random, &grants);
         let mut began = vec![0; IMAGE as usize];
         random.fill(&mut began);
-        let mut stripe = Stripe { heedless, ..Stripe::new(&began) };
+        let mut stripe = Stripe { wrong, ..Stripe::new(&began) };
         for _ in 0..pieces.len() * 3 {
             let place = random.below(pieces.len() as u64) as usize;
             step(&mut stripe, random, &mut pieces[place]);
@@ -301,7 +381,7 @@ fn play(seeds: Range<u64>, heedless: bool) -> (usize, usize) {
             if random.once_in(2) {
                 stripe.cut();
             }
-            if !piece.noted {
+            if !piece.noted || random.once_in(4) {
                 stripe.note(piece.piece()).unwrap();
                 piece.noted = true;
             }
@@ -309,19 +389,21 @@ fn play(seeds: Range<u64>, heedless: bool) -> (usize, usize) {
         }
 
         for place in 0..IMAGE {
-            let over = |piece: &&Flush| {
-                piece.noted
-                    && (piece.first..piece.first + piece.bytes.len() as u64).contains(&place)
-            };
-            let over: Vec<usize> = pieces.iter().filter(over).map(|piece| piece.grant).collect();
-            let later = over.iter().copied().max();
-            contested += usize::from(over.iter().any(|&grant| Some(grant) != later));
-            let expected = later.map_or(began[place as usize], |grant| byte(grant, place));
+            let over = |piece: &&Flush| piece.noted && piece.places().contains(&place);
+            let over = || pieces.iter().filter(over);
+            let mut expected = began[place as usize];
+            if let Some(grant) = over().map(|piece| piece.grant).max() {
+                let passes = || over().filter(|piece| piece.grant == grant).map(|p| p.pass);
+                let pass = passes().max().unwrap();
+                expected = byte(grant, pass, place);
+                played.contested += usize::from(over().any(|piece| piece.grant != grant));
+                played.rewritten += usize::from(passes().any(|other| other != pass));
+            }
             assert_eq!(stripe.image[place as usize], expected, "byte {place}");
         }
-        turned += stripe.turned;
+        played.turned += stripe.turned;
     });
-    (contested, turned)
+    played
 }
 
 /// One note or write of a piece, cut or whole; or a compaction, or the turn to its log, which a cut finds

@@ -65,6 +65,7 @@ fn stripe() {
     compactions::notes_after(&mut shipped);
     edges::notes(&mut shipped);
     edges::writes(&mut shipped);
+    edges::pairs(&mut shipped);
     edges::fields(&mut shipped);
     edges::counts(&mut shipped);
     edges::lengths(&mut shipped);
@@ -72,5 +73,5 @@ fn stripe() {
     damage::each_bit(&mut shipped);
     damage::each_run(&mut shipped);
     damage::each_byte_after(&mut shipped);
-    shipped.reached(140_000, &[0, 12, 13, 14, 15, 16, 17, 18]);
+    shipped.reached(250_000, &[0, 12, 13, 14, 15, 16, 17, 18]);
 }

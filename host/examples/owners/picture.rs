@@ -1,14 +1,19 @@
 //! The picture of who owns which byte. The library plays the example; what is drawn is its map and
 //! its image.
 
-use gilboreth_host::{Log, Map, Number, Piece};
+use gilboreth_host::{Log, Map, Number, Pass, Piece};
 
 const IMAGE: &[u8; 10] = b"..........";
-const A: Piece<&[u8]> = Piece { first: 0, bytes: b"AAAAAA", number: Number(2) };
-const B: Piece<&[u8]> = Piece { first: 4, bytes: b"BBBB", number: Number(1) };
-const C: Piece<&[u8]> = Piece { first: 5, bytes: b"CCC", number: Number(3) };
+const A: Piece<&[u8]> = piece(0, b"AAAAAA", 2);
+const B: Piece<&[u8]> = piece(4, b"BBBB", 1);
+const C: Piece<&[u8]> = piece(5, b"CCC", 3);
 /// The piece of P9, which is noted and not written.
-const D: Piece<&[u8]> = Piece { first: 8, bytes: b"DD", number: Number(3) };
+const D: Piece<&[u8]> = piece(8, b"DD", 3);
+
+/// A piece of its lock's first pass, as all are here.
+const fn piece(first: u64, bytes: &[u8], number: u64) -> Piece<&[u8]> {
+    Piece { first, bytes, number: Number(number), pass: Pass(1) }
+}
 
 pub fn draw() -> String {
     let (mut map, mut log, mut image) = (Map::new(), Log::new(), *IMAGE);
@@ -90,12 +95,12 @@ impl Page {
         self.next();
     }
 
-    /// A piece, full where the map has its number.
+    /// A piece, full where the map has its number and pass.
     fn piece(&mut self, piece: Piece<&[u8]>, map: &Map) {
-        let Piece { first, bytes, number } = piece;
+        let Piece { first, bytes, number, .. } = piece;
         self.label(&format!("{}, number {}", char::from(bytes[0]), number.0));
         for (byte, &letter) in (first..).zip(bytes) {
-            let class = if map.number_at(byte) == number { owned(number) } else { "lost" };
+            let class = if map.age_at(byte) == piece.age() { owned(number) } else { "lost" };
             self.cell(class, byte, byte, &char::from(letter).to_string());
         }
         self.next();
@@ -112,7 +117,7 @@ impl Page {
     fn image(&mut self, name: &str, map: &Map, image: &[u8]) {
         self.label(name);
         for (byte, &letter) in (0..).zip(image) {
-            let class = owned(map.number_at(byte));
+            let class = owned(map.age_at(byte).number);
             self.cell(class, byte, byte, &char::from(letter).to_string());
         }
         self.next();

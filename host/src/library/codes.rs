@@ -1,4 +1,4 @@
-//! Mode codes, state codes, and the two counters.
+//! Mode codes and state codes; handles, numbers and passes; ages.
 
 /// The mode of a lock.
 #[derive(Clone, Copy, Debug, PartialEq, Eq, Hash)]
@@ -71,3 +71,36 @@ pub struct Handle(pub u64);
 /// ```
 #[derive(Clone, Copy, Debug, PartialEq, Eq, PartialOrd, Ord, Hash)]
 pub struct Number(pub u64);
+
+/// A pass: counted by the client from 1 under each lock.
+///
+/// A client may flush, keep its lock and write again. It takes the next pass before it writes anew to a
+/// byte that it has flushed under this lock. A resend sends the same bytes with the same pass. So pieces
+/// of one number and one pass agree wherever they overlap, and the later of two flushes wins, whichever
+/// arrives last. At the highest pass, 4,294,967,295, the client flushes, releases its lock and requests
+/// again.
+///
+/// A pass is not passed for a number either:
+///
+/// ```compile_fail
+/// use gilboreth_host::{Number, Pass, Piece};
+///
+/// let piece = Piece { first: 0, bytes: 9, number: Pass(1), pass: Number(2) };
+/// ```
+#[derive(Clone, Copy, Debug, PartialEq, Eq, PartialOrd, Ord, Hash)]
+pub struct Pass(pub u64);
+
+/// By what pieces and runs are judged: by number first, and by pass second.
+///
+/// ```
+/// use gilboreth_host::{Age, Number, Pass};
+///
+/// let age = |number, pass| Age { number: Number(number), pass: Pass(pass) };
+/// assert!(age(1, 1) < age(1, 2));
+/// assert!(age(1, 9) < age(2, 1));
+/// ```
+#[derive(Clone, Copy, Debug, PartialEq, Eq, PartialOrd, Ord, Hash)]
+pub struct Age {
+    pub number: Number,
+    pub pass: Pass,
+}

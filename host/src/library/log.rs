@@ -10,13 +10,13 @@ use std::ops::Range;
 const ENTRIES: usize = 2_048;
 
 buffer! {
-    /// The log of a stripe, 40,964 bytes: the noted pieces, in note order. All zeros is the empty log.
+    /// The log of a stripe, 49,156 bytes: the noted pieces, in note order. All zeros is the empty log.
     ///
-    /// It is what lives through a restart. A note changes it in the new entry's 20 bytes and in the
+    /// It is what lives through a restart. A note changes it in the new entry's 24 bytes and in the
     /// count. A host that puts it down puts the entry down first, and then the count as one store:
     ///
     /// ```
-    /// use gilboreth_host::{Log, Map, Number, Piece};
+    /// use gilboreth_host::{Log, Map, Number, Pass, Piece};
     ///
     /// // What is on disk. A cut between two calls of `put` is harmless.
     /// let mut disk = Log::new();
@@ -25,7 +25,8 @@ buffer! {
     /// };
     ///
     /// let (mut map, mut log) = (Map::new(), Log::new());
-    /// map.note(&mut log, Piece { first: 4, bytes: 4, number: Number(2) }, 10)?;
+    /// let piece = Piece { first: 4, bytes: 4, number: Number(2), pass: Pass(1) };
+    /// map.note(&mut log, piece, 10)?;
     /// put(Log::entry(log.entries().len() - 1), &log);
     /// put(Log::COUNT, &log);
     /// assert!(disk == log);
@@ -52,14 +53,15 @@ impl Log {
     /// log alone, and be lost. A cut finds either log; after one, compact anew.
     ///
     /// ```
-    /// use gilboreth_host::{Log, Map, Number, Piece, Run};
+    /// use gilboreth_host::{Log, Map, Number, Pass, Piece, Run};
     ///
     /// // What is on disk: two logs, and the word that says which of them counts.
     /// let mut disk = ([Log::new(), Log::new()], 0);
     ///
     /// let (mut map, mut log) = (Map::new(), Log::new());
+    /// let (number, pass) = (Number(7), Pass(1));
     /// for first in 0..2_048 {
-    ///     map.note(&mut log, Piece { first, bytes: 1, number: Number(7) }, 4_096)?;
+    ///     map.note(&mut log, Piece { first, bytes: 1, number, pass }, 4_096)?;
     /// }
     /// assert_eq!((log.notes_that_fit(), map.runs().len()), (0, 1));
     ///
@@ -68,7 +70,7 @@ impl Log {
     /// disk.0[1] = new.clone(); // and wait until it is durable
     /// disk.1 = 1;
     /// log = new;
-    /// assert!(log.entries().eq([Run { first: 0, last: 2_047, number: Number(7) }]));
+    /// assert!(log.entries().eq([Run { first: 0, last: 2_047, number, pass }]));
     /// assert_eq!(log.notes_that_fit(), 2_047);
     ///
     /// // The map is still the log's.

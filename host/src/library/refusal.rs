@@ -48,13 +48,13 @@ pub enum Refusal {
     Log = 13,
     /// The piece is of length 0, past the image or past EOF.
     Piece = 14,
-    /// The number is 0 or above 4,294,967,295.
+    /// The number or the pass is 0 or above 4,294,967,295.
     Number = 15,
     /// The resulting map needs over 1,024 runs.
     Runs = 16,
     /// The log holds 2,048 entries.
     Entries = 17,
-    /// Some byte of the piece has a smaller number in the map.
+    /// Some byte of the piece has a smaller age in the map: a smaller number, or its number and a smaller pass.
     Smaller = 18,
     /// The list has more than 64 items.
     Items = 19,

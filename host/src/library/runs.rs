@@ -1,7 +1,7 @@
-//! Runs of bytes with one number, which maps and logs hold.
+//! Runs of bytes with one age, which maps and logs hold.
 
 use super::buffer::{hyper, unsigned};
-use super::codes::Number;
+use super::codes::{Age, Number, Pass};
 use std::iter::FusedIterator;
 use std::slice::ChunksExact;
 
@@ -11,10 +11,16 @@ pub struct Run {
     pub first: u64,
     pub last: u64,
     pub number: Number,
+    pub pass: Pass,
 }
 
 impl Run {
-    pub(super) const BYTES: usize = 20;
+    pub(super) const BYTES: usize = 24;
+
+    /// Its number and its pass.
+    pub fn age(&self) -> Age {
+        Age { number: self.number, pass: self.pass }
+    }
 }
 
 /// The runs of a map, rising, or the entries of a log, in note order.
@@ -26,8 +32,8 @@ impl Iterator for Runs<'_> {
 
     fn next(&mut self) -> Option<Run> {
         let bytes = self.0.next()?;
-        let number = Number(unsigned(bytes, 16));
-        Some(Run { first: hyper(bytes, 0), last: hyper(bytes, 8), number })
+        let (number, pass) = (Number(unsigned(bytes, 16)), Pass(unsigned(bytes, 20)));
+        Some(Run { first: hyper(bytes, 0), last: hyper(bytes, 8), number, pass })
     }
 
     fn size_hint(&self) -> (usize, Option<usize>) {

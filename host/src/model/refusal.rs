@@ -31,13 +31,13 @@ pub const MAP: Refusal = 12;
 pub const LOG: Refusal = 13;
 /// The piece is of length 0, past the image or past EOF.
 pub const PIECE: Refusal = 14;
-/// The number is 0 or above 4,294,967,295.
+/// The number or the pass is 0 or above 4,294,967,295.
 pub const NUMBER: Refusal = 15;
 /// The resulting map needs over 1,024 runs.
 pub const RUNS: Refusal = 16;
 /// The log holds 2,048 entries.
 pub const ENTRIES: Refusal = 17;
-/// Some byte of the piece has a smaller number in the map.
+/// Some byte of the piece has a smaller age in the map.
 pub const SMALLER: Refusal = 18;
 /// The list has more than 64 items.
 pub const ITEMS: Refusal = 19;

@@ -1,11 +1,12 @@
 //! Note, write, restart and compaction of one stripe, on bytes as the C entries have them.
 
 use super::refusal::{self, refuse, Refusal};
-use super::runs::{map_of, numbers_over, sound_log, sound_map, Run, ENTRIES, RUNS};
+use super::runs::{ages_over, map_of, sound_log, sound_map, Age, Run, ENTRIES, RUNS};
 use super::xdr::{array, hyper, put_array, put_hyper, put_unsigned, unsigned, zero};
-use super::{EOF, HIGHEST};
+use super::{EOF, HIGHEST, HIGHEST_PASS};
 
-pub const RUN_BYTES: usize = 20;
+/// A run is first, last, number, pass.
+pub const RUN_BYTES: usize = 8 + 8 + 4 + 4;
 
 /// The exact length of a map.
 pub const MAP_BYTES: usize = 4 + RUN_BYTES * RUNS;
@@ -17,33 +18,33 @@ pub const fn run_at(place: usize) -> usize {
     4 + RUN_BYTES * place
 }
 
-/// A piece: its first byte, its bytes, or of a note how many they are, and its number.
+/// A piece: its first byte, its bytes, or of a note how many they are, and its age.
 #[derive(Clone, Copy, Debug, PartialEq, Eq)]
 pub struct Piece<B> {
     pub first: u64,
     pub bytes: B,
-    pub number: u64,
+    pub age: Age,
 }
 
 impl<B> Piece<B> {
-    pub const fn new(first: u64, bytes: B, number: u64) -> Piece<B> {
-        Piece { first, bytes, number }
+    pub const fn new(first: u64, bytes: B, number: u64, pass: u64) -> Piece<B> {
+        Piece { first, bytes, age: Age::new(number, pass) }
     }
 }
 
 impl Piece<&[u8]> {
     /// The piece as it is noted.
     pub fn outline(&self) -> Piece<u64> {
-        Piece { first: self.first, bytes: self.bytes.len() as u64, number: self.number }
+        Piece { first: self.first, bytes: self.bytes.len() as u64, age: self.age }
     }
 }
 
-/// Appends the piece's entry to the log and raises the map's numbers to the piece's.
+/// Appends the piece's entry to the log and raises the map's ages to the piece's.
 pub fn note(map: &mut [u8], log: &mut [u8], piece: Piece<u64>, image_length: u64) -> u64 {
     answer(try_note(map, log, piece, image_length))
 }
 
-/// Stores the piece's bytes in the image where the map's number equals the piece's.
+/// Stores the piece's bytes in the image where the map's age equals the piece's.
 pub fn write(map: &[u8], image: &mut [u8], piece: Piece<&[u8]>) -> u64 {
     answer(try_write(map, image, piece))
 }
@@ -84,10 +85,10 @@ fn try_note(
 fn try_write(map: &[u8], image: &mut [u8], piece: Piece<&[u8]>) -> Result<(), Refusal> {
     let runs = decode_map(map).ok_or(refusal::MAP)?;
     piece_run(piece.outline(), image.len() as u64)?;
-    let numbers = numbers_over(&runs, piece.first, piece.bytes.len());
-    refuse(refusal::SMALLER, numbers.iter().any(|&under| under < piece.number))?;
+    let ages = ages_over(&runs, piece.first, piece.bytes.len());
+    refuse(refusal::SMALLER, ages.iter().any(|&under| under < piece.age))?;
     for (at, &byte) in piece.bytes.iter().enumerate() {
-        if numbers[at] == piece.number {
+        if ages[at] == piece.age {
             image[piece.first as usize + at] = byte;
         }
     }
@@ -112,14 +113,15 @@ fn try_compact(old_log: &[u8], new_log: &mut [u8]) -> Result<(), Refusal> {
     Ok(())
 }
 
-/// The piece's range with its number. A sum past 2^64 is past EOF like any other.
+/// The piece's range with its age. A sum past 2^64 is past EOF like any other.
 fn piece_run(piece: Piece<u64>, image_length: u64) -> Result<Run, Refusal> {
-    let Piece { first, bytes: length, number } = piece;
+    let Piece { first, bytes: length, age } = piece;
     let end = u128::from(first) + u128::from(length);
     let past = end > u128::from(image_length) || end > u128::from(EOF) + 1;
     refuse(refusal::PIECE, length == 0 || past)?;
-    refuse(refusal::NUMBER, number == 0 || number > HIGHEST)?;
-    Ok(Run { first, last: first + (length - 1), number })
+    let Age { number, pass } = age;
+    refuse(refusal::NUMBER, number == 0 || number > HIGHEST || pass == 0 || pass > HIGHEST_PASS)?;
+    Ok(Run { first, last: first + (length - 1), age })
 }
 
 /// The runs of a map, unless it is of another length or not sound.
@@ -158,11 +160,13 @@ fn encode(length: usize, runs: &[Run]) -> Vec<u8> {
 }
 
 fn run(bytes: &[u8]) -> Option<Run> {
-    Some(Run { first: hyper(bytes, 0), last: hyper(bytes, 8), number: unsigned(bytes, 16) })
+    let age = Age::new(unsigned(bytes, 16), unsigned(bytes, 20));
+    Some(Run { first: hyper(bytes, 0), last: hyper(bytes, 8), age })
 }
 
 fn put_run(bytes: &mut [u8], run: &Run) {
     put_hyper(bytes, 0, run.first);
     put_hyper(bytes, 8, run.last);
-    put_unsigned(bytes, 16, run.number);
+    put_unsigned(bytes, 16, run.age.number);
+    put_unsigned(bytes, 20, run.age.pass);
 }

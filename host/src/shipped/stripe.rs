@@ -3,9 +3,9 @@
 use super::numbers::{partition, put_u32};
 use super::runs::{offset, sound_log, sound_map, Pen, Run};
 use crate::model::refusal::{self, refuse, Refusal};
-use crate::model::runs::{ENTRIES, RUNS};
+use crate::model::runs::{Age, ENTRIES, RUNS};
 use crate::model::stripe::{Piece, LOG_BYTES, MAP_BYTES};
-use crate::model::{EOF, HIGHEST};
+use crate::model::{EOF, HIGHEST, HIGHEST_PASS};
 use std::collections::BinaryHeap;
 
 pub fn note(map: &mut [u8], log: &mut [u8], piece: Piece<u64>, image_length: u64) -> u64 {
@@ -52,18 +52,18 @@ fn try_note(
     Ok(())
 }
 
-/// Writes the runs and the piece as one: each byte of the piece gets the greater number.
+/// Writes the runs and the piece as one: each byte of the piece gets the greater age.
 fn raise(pen: &mut Pen, runs: impl Iterator<Item = Run>, piece: Run) {
     let mut at = piece.first;
     for run in runs {
         let (first, end) = (run.first.max(piece.first), run.end.min(piece.end));
-        pen.put(run.first, run.end.min(piece.first), run.number);
-        pen.put(at, run.first.min(piece.end), piece.number);
-        pen.put(first, end, run.number.max(piece.number));
-        pen.put(run.first.max(piece.end), run.end, run.number);
+        pen.put(run.first, run.end.min(piece.first), run.age);
+        pen.put(at, run.first.min(piece.end), piece.age);
+        pen.put(first, end, run.age.max(piece.age));
+        pen.put(run.first.max(piece.end), run.end, run.age);
         at = at.max(end);
     }
-    pen.put(at, piece.end, piece.number);
+    pen.put(at, piece.end, piece.age);
     pen.lift();
 }
 
@@ -77,11 +77,11 @@ fn try_write(map: &[u8], image: &mut [u8], piece: Piece<&[u8]>) -> Result<(), Re
 
     let mut at = first;
     for run in runs() {
-        refuse(refusal::SMALLER, at < run.first || run.number < whole.number)?;
+        refuse(refusal::SMALLER, at < run.first || run.age < whole.age)?;
         at = run.end;
     }
     refuse(refusal::SMALLER, at < whole.end)?;
-    for run in runs().filter(|run| run.number == whole.number) {
+    for run in runs().filter(|run| run.age == whole.age) {
         let (from, to) = (run.first.max(first), run.end.min(whole.end));
         let stretch = &piece.bytes[(from - first) as usize..(to - first) as usize];
         image[from as usize..to as usize].copy_from_slice(stretch);
@@ -117,7 +117,7 @@ fn rebuilt(log: &[u8]) -> Result<Pen, Refusal> {
     Ok(pen)
 }
 
-/// Goes from border to border. The entries begun so far stand in a heap, the greatest number first;
+/// Goes from border to border. The entries begun so far stand in a heap, the greatest age first;
 /// one that has ended is taken out when it comes to the top.
 fn sweep(pen: &mut Pen, entries: &[Run]) {
     let mut begun = BinaryHeap::with_capacity(entries.len());
@@ -125,15 +125,15 @@ fn sweep(pen: &mut Pen, entries: &[Run]) {
     let mut at = 0;
     loop {
         while let Some(entry) = entries.next_if(|entry| entry.first <= at) {
-            begun.push((entry.number, entry.end));
+            begun.push((entry.age, entry.end));
         }
         match (begun.peek(), entries.peek()) {
             (Some(&(_, end)), _) if end <= at => {
                 begun.pop();
             }
-            (Some(&(number, end)), next) => {
+            (Some(&(age, end)), next) => {
                 let border = next.map_or(end, |next| end.min(next.first));
-                pen.put(at, border, number);
+                pen.put(at, border, age);
                 at = border;
             }
             (None, Some(next)) => at = next.first,
@@ -143,11 +143,11 @@ fn sweep(pen: &mut Pen, entries: &[Run]) {
     pen.lift();
 }
 
-/// The piece's stretch with its number.
+/// The piece's stretch with its age.
 fn piece_run(piece: Piece<u64>, image_length: u64) -> Result<Run, Refusal> {
-    let Piece { first, bytes: length, number } = piece;
+    let Piece { first, bytes: length, age: Age { number, pass } } = piece;
     let end = first.checked_add(length).filter(|&end| end <= image_length.min(EOF + 1));
     let end = end.filter(|_| length > 0).ok_or(refusal::PIECE)?;
-    refuse(refusal::NUMBER, number == 0 || number > HIGHEST)?;
-    Ok(Run { first, end, number: number as u32 })
+    refuse(refusal::NUMBER, number == 0 || number > HIGHEST || pass == 0 || pass > HIGHEST_PASS)?;
+    Ok(Run { first, end, age: number << 32 | pass })
 }

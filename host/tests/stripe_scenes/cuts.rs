@@ -1,23 +1,25 @@
 //! Runs of one stripe: pieces noted and written in any order, again and again, with cuts, and with
 //! compactions and turns to the new log.
 //!
-//! At the end each byte under a noted piece is that of the noted piece with the greatest number
-//! there, and every other byte is as it began.
+//! At the end each byte under a noted piece is that of the noted piece with the greatest age there, and
+//! every other byte is as it began.
 
 use super::{apart, drawn};
+use gilboreth_host::ages::Ages;
 use gilboreth_host::beside::Beside;
-use gilboreth_host::model::runs::{Run, ENTRIES, RUNS};
+use gilboreth_host::model::runs::{Age, Run, ENTRIES, RUNS};
 use gilboreth_host::model::stripe::{self, decode_log, decode_map, run_at, LOG_BYTES, MAP_BYTES};
 use gilboreth_host::random::{for_seeds, Random};
 use std::mem::swap;
 use std::ops::{Range, RangeInclusive};
 
-/// Few numbers, so that many pieces share theirs and some are written without their own note.
+/// Few ages, so that many pieces share theirs and some are written without their own note.
 pub fn crowded(beside: &mut Beside, seeds: Range<u64>) {
     for_seeds(seeds, |random| {
         let image_length = 1 + random.below(64);
-        let runs = drawn(random, 10, image_length, 24, 5);
-        Stripe::new(beside, random, image_length).play(runs, 60);
+        let ages = Ages::few(random);
+        let runs = drawn(random, 10, image_length, 24, ages);
+        Stripe::new(beside, random, ages, image_length).play(runs, 60);
     });
 }
 
@@ -27,8 +29,9 @@ pub fn compacted(beside: &mut Beside, seeds: Range<u64>, heedless: bool) {
     let (played, mut turned) = (seeds.end - seeds.start, 0);
     for_seeds(seeds, |random| {
         let image_length = 1 + random.below(64);
-        let runs = drawn(random, 10, image_length, 24, 5);
-        let stripe = Stripe::new(beside, random, image_length);
+        let ages = Ages::few(random);
+        let runs = drawn(random, 10, image_length, 24, ages);
+        let stripe = Stripe::new(beside, random, ages, image_length);
         let mut stripe = Stripe { compacts: true, heedless, ..stripe };
         stripe.play(runs, 90);
         turned += stripe.turned;
@@ -39,9 +42,10 @@ pub fn compacted(beside: &mut Beside, seeds: Range<u64>, heedless: bool) {
 /// A run near 1,024 runs, where notes are refused with 16, and restarts and compactions are not.
 pub fn at_the_limit_of_runs(beside: &mut Beside, seeds: Range<u64>) {
     for_seeds(seeds, |random| {
-        let mut runs = drawn(random, 60, 2_100, 3, 6);
-        let mut stripe = Stripe::new(beside, random, 2_100);
-        for run in apart(1_025, 3) {
+        let ages = Ages::up_to(3);
+        let mut runs = drawn(random, 60, 2_100, 3, ages);
+        let mut stripe = Stripe::new(beside, random, ages, 2_100);
+        for run in apart(1_025, Age::new(2, 2)) {
             stripe.note(run, false);
         }
         assert_eq!(stripe.noted.len(), RUNS);
@@ -55,8 +59,9 @@ pub fn at_the_limit_of_runs(beside: &mut Beside, seeds: Range<u64>) {
 /// A run that fills its log, where notes are refused with 17 and restarts are not.
 pub fn at_the_limit_of_entries(beside: &mut Beside, seeds: Range<u64>) {
     for_seeds(seeds, |random| {
-        let runs = drawn(random, 20, 64, 24, 5);
-        let mut stripe = Stripe::new(beside, random, 64);
+        let ages = Ages::few(random);
+        let runs = drawn(random, 20, 64, 24, ages);
+        let mut stripe = Stripe::new(beside, random, ages, 64);
         while stripe.noted.len() < ENTRIES - 10 {
             let run = stripe.random.pick(&runs);
             stripe.note(run, false);
@@ -69,8 +74,9 @@ pub fn at_the_limit_of_entries(beside: &mut Beside, seeds: Range<u64>) {
 /// A run that fills its log, compacts it whenever it is full, and so is never refused with 17.
 pub fn past_the_limit_of_entries(beside: &mut Beside, seeds: Range<u64>) {
     for_seeds(seeds, |random| {
-        let runs = drawn(random, 20, 64, 24, 5);
-        let mut stripe = Stripe::new(beside, random, 64);
+        let ages = Ages::few(random);
+        let runs = drawn(random, 20, 64, 24, ages);
+        let mut stripe = Stripe::new(beside, random, ages, 64);
         while stripe.noted.len() < ENTRIES + 10 {
             if stripe.entries.len() == ENTRIES {
                 stripe.compact(false);
@@ -97,12 +103,6 @@ enum Ending {
     Cut,
 }
 
-/// The byte that every piece with this number has at a place, so that they agree.
-/// At one place different numbers below 256 have different bytes.
-fn byte(number: u64, place: usize) -> u8 {
-    (67 * number + place as u64) as u8
-}
-
 fn places(run: &Run) -> RangeInclusive<usize> {
     run.first as usize..=run.last as usize
 }
@@ -111,14 +111,15 @@ fn places(run: &Run) -> RangeInclusive<usize> {
 struct Stripe<'a> {
     beside: &'a mut Beside,
     random: &'a mut Random,
+    ages: Ages,
     map: Vec<u8>,
     log: Vec<u8>,
     image: Vec<u8>,
     /// The image as it began.
     began: Vec<u8>,
-    /// What is noted, in note order, and the greatest number of each byte.
+    /// What is noted, in note order, and the greatest age of each byte.
     noted: Vec<Run>,
-    numbers: Vec<u64>,
+    greatest: Vec<Age>,
     /// The entries of the log: those of its compaction, and then what was noted since.
     entries: Vec<Run>,
     /// The second buffer, and whether it has the new log that the stripe may turn to.
@@ -131,16 +132,22 @@ struct Stripe<'a> {
 }
 
 impl Stripe<'_> {
-    fn new<'a>(beside: &'a mut Beside, random: &'a mut Random, image_length: u64) -> Stripe<'a> {
+    fn new<'a>(
+        beside: &'a mut Beside,
+        random: &'a mut Random,
+        ages: Ages,
+        image_length: u64,
+    ) -> Stripe<'a> {
         let mut image = vec![0; image_length as usize];
         random.fill(&mut image);
         Stripe {
             beside,
             random,
+            ages,
             map: vec![0; MAP_BYTES],
             log: vec![0; LOG_BYTES],
             began: image.clone(),
-            numbers: vec![0; image.len()],
+            greatest: vec![Age::NONE; image.len()],
             image,
             noted: Vec::new(),
             entries: Vec::new(),
@@ -152,11 +159,17 @@ impl Stripe<'_> {
         }
     }
 
+    /// The byte that every piece of this age has at a place, so that they agree. At one place different
+    /// ages have different bytes.
+    fn byte(&self, age: Age, place: usize) -> u8 {
+        (67 * self.ages.place(age) + place as u64) as u8
+    }
+
     /// Notes a piece. A cut leaves the old log, or the new one if the note is accepted.
     fn note(&mut self, run: Run, cut: bool) {
-        let mut raised = self.numbers.clone();
+        let mut raised = self.greatest.clone();
         for place in places(&run) {
-            raised[place] = raised[place].max(run.number);
+            raised[place] = raised[place].max(run.age);
         }
         let expected = match (runs_of(&raised).len() > RUNS, self.entries.len() == ENTRIES) {
             (true, _) => 16,
@@ -165,21 +178,22 @@ impl Stripe<'_> {
         };
         let old_left = cut && (expected != 0 || self.random.once_in(2));
         if !old_left {
-            let Run { first, last, number } = run;
-            let (length, image_length) = (last - first + 1, self.image.len() as u64);
+            let Run { first, last, age } = run;
+            let piece = stripe::Piece { first, bytes: last - first + 1, age };
+            let image_length = self.image.len() as u64;
             let mut new_log = self.log.clone();
             let (map, log) = (&mut self.map, &mut self.log);
-            let answered =
-                self.beside.note(map, log, stripe::Piece::new(first, length, number), image_length);
+            let answered = self.beside.note(map, log, piece, image_length);
             assert_eq!(answered, expected);
             if answered == 0 {
                 let end = self.end_of_entries();
                 new_log[end..end + 8].copy_from_slice(&first.to_be_bytes());
                 new_log[end + 8..end + 16].copy_from_slice(&last.to_be_bytes());
-                new_log[end + 16..end + 20].copy_from_slice(&(number as u32).to_be_bytes());
+                new_log[end + 16..end + 20].copy_from_slice(&(age.number as u32).to_be_bytes());
+                new_log[end + 20..end + 24].copy_from_slice(&(age.pass as u32).to_be_bytes());
                 self.noted.push(run);
                 self.entries.push(run);
-                self.numbers = raised;
+                self.greatest = raised;
                 new_log[..4].copy_from_slice(&(self.entries.len() as u32).to_be_bytes());
                 self.compacted &= self.heedless;
             }
@@ -199,22 +213,22 @@ impl Stripe<'_> {
     /// After a cut note the bytes past the entries are anything.
     fn scribble(&mut self) {
         let end = self.end_of_entries();
-        let reach = self.random.pick(&[3, 20, 60, LOG_BYTES]);
+        let reach = self.random.pick(&[3, 24, 60, LOG_BYTES]);
         self.random.fill(&mut self.log[end..LOG_BYTES.min(end + reach)]);
     }
 
     /// Writes a piece. A cut leaves anything at the places that the write would store.
     fn write(&mut self, piece: &mut Piece, cut: bool) {
         let run = piece.run;
-        let bytes: Vec<u8> = places(&run).map(|place| byte(run.number, place)).collect();
-        let refused = places(&run).any(|place| self.numbers[place] < run.number);
+        let bytes: Vec<u8> = places(&run).map(|place| self.byte(run.age, place)).collect();
+        let refused = places(&run).any(|place| self.greatest[place] < run.age);
         let mut new_image = self.image.clone();
         for place in places(&run) {
-            if !refused && self.numbers[place] == run.number {
+            if !refused && self.greatest[place] == run.age {
                 new_image[place] = match self.random.below(3) {
                     0 if cut => self.image[place],
                     1 if cut => self.random.draw() as u8,
-                    _ => byte(run.number, place),
+                    _ => self.byte(run.age, place),
                 };
             }
         }
@@ -222,11 +236,8 @@ impl Stripe<'_> {
             self.image = new_image;
             self.cut();
         } else {
-            let answered = self.beside.write(
-                &self.map,
-                &mut self.image,
-                stripe::Piece::new(run.first, &bytes, run.number),
-            );
+            let piece = stripe::Piece { first: run.first, bytes: &bytes[..], age: run.age };
+            let answered = self.beside.write(&self.map, &mut self.image, piece);
             assert_eq!(answered, if refused { 18 } else { 0 });
             assert!(self.image == new_image);
         }
@@ -238,7 +249,7 @@ impl Stripe<'_> {
 
     /// Compacts the log. No compaction is refused. A cut leaves anything in the second buffer.
     fn compact(&mut self, cut: bool) {
-        let runs = runs_of(&self.numbers);
+        let runs = runs_of(&self.greatest);
         assert_eq!(self.beside.compact(&self.log, &mut self.second), 0);
         assert_eq!(decode_log(&self.second).unwrap(), runs);
         assert!(self.second[run_at(runs.len())..].iter().all(|&byte| byte == 0));
@@ -262,7 +273,7 @@ impl Stripe<'_> {
         if self.compacted && !(cut && self.random.once_in(2)) {
             swap(&mut self.log, &mut self.second);
             self.compacted = false;
-            self.entries = runs_of(&self.numbers);
+            self.entries = runs_of(&self.greatest);
             self.turned += 1;
         }
         if cut {
@@ -290,14 +301,14 @@ impl Stripe<'_> {
         assert_eq!(self.beside.restart(&mut self.map, &self.log), 0);
     }
 
-    /// The log has its entries, and each byte's number is the greatest that was noted over it.
+    /// The log has its entries, and each byte's age is the greatest that was noted over it.
     fn check(&self) {
         assert_eq!(decode_log(&self.log).unwrap(), self.entries);
-        let mut numbers = vec![0; self.image.len()];
+        let mut ages = vec![Age::NONE; self.image.len()];
         for run in decode_map(&self.map).unwrap() {
-            numbers[places(&run)].fill(run.number);
+            ages[places(&run)].fill(run.age);
         }
-        assert_eq!(numbers, self.numbers);
+        assert_eq!(ages, self.greatest);
     }
 
     /// Notes and writes the pieces at random, and ends with each piece written to its end.
@@ -322,8 +333,9 @@ impl Stripe<'_> {
             self.write(piece, false);
             assert!(piece.written == Some(Ending::Whole));
         }
-        for (place, &number) in self.numbers.iter().enumerate() {
-            let expected = if number == 0 { self.began[place] } else { byte(number, place) };
+        for (place, &age) in self.greatest.iter().enumerate() {
+            let none = age == Age::NONE;
+            let expected = if none { self.began[place] } else { self.byte(age, place) };
             assert_eq!(self.image[place], expected, "byte {place}");
         }
     }
@@ -337,14 +349,14 @@ impl Stripe<'_> {
     }
 }
 
-/// The runs that these numbers need: stretches of equal numbers, without those of number 0.
-fn runs_of(numbers: &[u64]) -> Vec<Run> {
+/// The runs that these ages need: stretches of equal ages, without those that have none.
+fn runs_of(ages: &[Age]) -> Vec<Run> {
     let mut runs: Vec<Run> = Vec::new();
-    for (place, &number) in (0..).zip(numbers) {
+    for (place, &age) in (0..).zip(ages) {
         match runs.last_mut() {
-            Some(run) if run.last + 1 == place && run.number == number => run.last = place,
-            _ if number == 0 => {}
-            _ => runs.push(Run { first: place, last: place, number }),
+            Some(run) if run.last + 1 == place && run.age == age => run.last = place,
+            _ if age == Age::NONE => {}
+            _ => runs.push(Run { first: place, last: place, age }),
         }
     }
     runs

@@ -9,24 +9,25 @@ pub mod limits;
 pub mod pieces;
 pub mod restarts;
 
+use gilboreth_host::ages::Ages;
 use gilboreth_host::beside::Beside;
-use gilboreth_host::model::runs::{Run, RUNS};
+use gilboreth_host::model::runs::{Age, Run, RUNS};
 use gilboreth_host::model::stripe::{decode_log, encode_log, run_at, LOG_BYTES, MAP_BYTES};
 use gilboreth_host::random::Random;
 
-/// Runs anywhere under the end, of at most this length and number.
-fn drawn(random: &mut Random, count: u64, end: u64, longest: u64, greatest: u64) -> Vec<Run> {
+/// Runs anywhere under the end, of at most this length, with any of these ages.
+fn drawn(random: &mut Random, count: u64, end: u64, longest: u64, ages: Ages) -> Vec<Run> {
     let mut draw = || {
         let first = random.below(end);
         let last = (first + random.below(longest)).min(end - 1);
-        Run { first, last, number: 1 + random.below(greatest) }
+        Run { first, last, age: ages.draw(random) }
     };
     (0..count).map(|_| draw()).collect()
 }
 
-/// Runs of one byte and one number, on every other byte.
-fn apart(count: u64, number: u64) -> Vec<Run> {
-    (0..count).map(|place| Run { first: 2 * place, last: 2 * place, number }).collect()
+/// Runs of one byte and one age, on every other byte.
+fn apart(count: u64, age: Age) -> Vec<Run> {
+    (0..count).map(|place| Run { first: 2 * place, last: 2 * place, age }).collect()
 }
 
 /// A restart of the log with these entries, and its compaction, which is answered alike. The new log has

@@ -1,6 +1,7 @@
-//! Pieces with equal, smaller and greater numbers, noted and written in any order.
+//! Pieces with equal, smaller and greater ages, noted and written in any order.
 
 use super::drawn;
+use gilboreth_host::ages::Ages;
 use gilboreth_host::beside::Beside;
 use gilboreth_host::model::runs::map_of;
 use gilboreth_host::model::stripe::{encode_log, encode_map, run_at, Piece};
@@ -24,12 +25,13 @@ pub fn large(beside: &mut Beside, seeds: Range<u64>) {
 }
 
 /// Sixty calls. The map and the log begin apart from each other, as no run would leave them.
-/// Some pieces are empty or go past the image, and some have number 0.
+/// Some pieces are empty or go past the image, and some have an age that is refused with 15.
 fn play(beside: &mut Beside, random: &mut Random, image_length: u64, longest: u64) {
+    let ages = Ages::few(random);
     let count = random.below(12);
-    let mut map = encode_map(&map_of(&drawn(random, count, image_length, longest, 6)));
+    let mut map = encode_map(&map_of(&drawn(random, count, image_length, longest, ages)));
     let count = random.below(12);
-    let mut log = encode_log(&drawn(random, count, image_length, longest, 6));
+    let mut log = encode_log(&drawn(random, count, image_length, longest, ages));
     random.fill(&mut log[run_at(count as usize)..300]);
     let mut image = vec![0; image_length as usize];
     random.fill(&mut image);
@@ -40,15 +42,17 @@ fn play(beside: &mut Beside, random: &mut Random, image_length: u64, longest: u6
         if !random.once_in(8) {
             length = length.min(image_length - first);
         }
-        let number = random.below(8);
+        let refused = random.once_in(10);
+        let age = if refused { ages.draw_refused(random) } else { ages.draw(random) };
         match random.below(16) {
             0..=7 => {
-                beside.note(&mut map, &mut log, Piece::new(first, length, number), image_length)
+                let piece = Piece { first, bytes: length, age };
+                beside.note(&mut map, &mut log, piece, image_length)
             }
             8..=14 => {
-                let piece = &mut bytes[..length as usize];
-                random.fill(piece);
-                beside.write(&map, &mut image, Piece::new(first, piece, number))
+                let bytes = &mut bytes[..length as usize];
+                random.fill(bytes);
+                beside.write(&map, &mut image, Piece { first, bytes, age })
             }
             _ => beside.restart(&mut map, &log),
         };

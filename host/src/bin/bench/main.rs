@@ -59,7 +59,7 @@ fn measured() -> &'static str {
 
 /// Runs of three bytes with number 5 and two bytes between.
 fn apart(count: u64) -> Vec<Run> {
-    (0..count).map(|place| Run { first: 5 * place, last: 5 * place + 2, number: 5 }).collect()
+    (0..count).map(|place| Run::new(5 * place, 5 * place + 2, 5, 1)).collect()
 }
 
 /// A piece in the middle that meets two runs, with a log of as many entries.
@@ -70,7 +70,7 @@ fn notes() {
         Case {
             name: format!("note at {count} runs"),
             buffers: [encode_map(&runs), encode_log(&runs)],
-            call: &|calls, map, log| (calls.note)(map, log, Piece::new(first, 6, 6), 10_000),
+            call: &|calls, map, log| (calls.note)(map, log, Piece::new(first, 6, 6, 1), 10_000),
         }
         .row();
     }
@@ -81,11 +81,7 @@ fn writes() {
     for (length, name) in [(4_096, "4 KiB"), (1_048_576, "1 MiB")] {
         for count in [1, 1_000] {
             let border = |place: u64| 100 + length * place / count;
-            let run = |place: u64| Run {
-                first: border(place),
-                last: border(place + 1) - 1,
-                number: 5 + place % 2,
-            };
+            let run = |place: u64| Run::new(border(place), border(place + 1) - 1, 5 + place % 2, 1);
             let runs: Vec<Run> = (0..count).map(run).collect();
             let piece = vec![0xEE; length as usize];
             let wanted = if length > 4_096 && count == 1 { 0.8 } else { 0.0 };
@@ -93,7 +89,7 @@ fn writes() {
             Case {
                 name: format!("write of {name} over {count} run{half}"),
                 buffers: [encode_map(&runs), vec![0; length as usize + 200]],
-                call: &|calls, map, image| (calls.write)(map, image, Piece::new(100, &piece, 5)),
+                call: &|calls, map, image| (calls.write)(map, image, Piece::new(100, &piece, 5, 1)),
             }
             .row_beside_memcpy(length, wanted);
         }

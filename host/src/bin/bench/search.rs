@@ -4,7 +4,7 @@
 
 use crate::case::micros;
 use gilboreth_host::calls::{Calls, LIBRARY, SHIPPED};
-use gilboreth_host::model::runs::{Run, ENTRIES};
+use gilboreth_host::model::runs::{Age, Run, ENTRIES};
 use gilboreth_host::model::stripe::{encode_log, LOG_BYTES, MAP_BYTES};
 use gilboreth_host::random::Random;
 use std::time::{Duration, Instant};
@@ -75,12 +75,13 @@ fn least_of(times: usize, mut call: impl FnMut() -> u64) -> Duration {
     (0..times).map(|_| once()).min().unwrap()
 }
 
-/// A full log: first bytes, lengths and numbers each by one of a few rules, in one of a few orders.
+/// A full log: first bytes, lengths and ages each by one of a few rules, in one of a few orders.
 fn draw(random: &mut Random) -> (String, Vec<Run>) {
     let count = ENTRIES as u64;
     let firsts = random.pick(&["apart", "touching", "equal", "anywhere", "in streams"]);
     let lengths = random.pick(&["short", "long", "nested", "any length"]);
-    let numbers = random.pick(&["one number", "rising", "falling", "scrambled", "any number"]);
+    let ages = random.pick(&["one age", "rising", "falling", "scrambled", "any age"]);
+    let counted = random.pick(&COUNTED);
     let order = random.pick(&["as it is", "reversed", "shuffled", "in blocks"]);
     let streams = 1 + random.below(64);
     let mut entry = |place: u64| {
@@ -97,14 +98,14 @@ fn draw(random: &mut Random) -> (String, Vec<Run>) {
             "nested" => (1 << 24) - 2 * first,
             _ => 1 + random.below(1 << 20),
         };
-        let number = match numbers {
-            "one number" => 1,
-            "rising" => 1 + place,
-            "falling" => count - place,
-            "scrambled" => 1 + place * 997 % count,
-            _ => 1 + random.below(count),
+        let age = match ages {
+            "one age" => 0,
+            "rising" => place,
+            "falling" => count - 1 - place,
+            "scrambled" => place * 997 % count,
+            _ => random.below(count),
         };
-        Run { first, last: first + length - 1, number }
+        Run { first, last: first + length - 1, age: counted_by(counted, age) }
     };
     let mut entries: Vec<Run> = (0..count).map(&mut entry).collect();
     match order {
@@ -113,7 +114,18 @@ fn draw(random: &mut Random) -> (String, Vec<Run>) {
         "in blocks" => entries.chunks_mut(streams as usize).for_each(<[Run]>::reverse),
         _ => {}
     }
-    (format!("{firsts}, {lengths}, {numbers}, {order}"), entries)
+    (format!("{firsts}, {lengths}, {ages} by {counted}, {order}"), entries)
+}
+
+const COUNTED: [&str; 3] = ["numbers", "passes", "both"];
+
+/// The age at a place among those that rise by numbers, by passes or by both.
+fn counted_by(counted: &str, place: u64) -> Age {
+    match counted {
+        "numbers" => Age::new(1 + place, 1),
+        "passes" => Age::new(1, 1 + place),
+        _ => Age::new(1 + place / 32, 1 + place % 32),
+    }
 }
 
 /// Changes some of the log's entries, or their order.
@@ -132,8 +144,12 @@ fn change(random: &mut Random, entries: &mut [Run]) {
         0 => random.shuffle(part),
         1 => part.reverse(),
         2 => part.sort_by_key(|entry| entry.first),
-        3 => part.sort_by_key(|entry| entry.number),
-        4 => part.iter_mut().for_each(|entry| entry.number = 1 + random.below(count)),
+        3 => part.sort_by_key(|entry| entry.age),
+        4 => {
+            let counted = random.pick(&COUNTED);
+            let mut age = || counted_by(counted, random.below(count));
+            part.iter_mut().for_each(|entry| entry.age = age());
+        }
         5 => part.iter_mut().for_each(|entry| entry.last = entry.first + random.below(1 << 20)),
         6 => part.iter_mut().for_each(|entry| {
             (entry.last, entry.first) = (near.first + (entry.last - entry.first), near.first)
