@@ -58,17 +58,27 @@ pub fn greater(a: u64, b: u64) -> u64
     a
 }
 
+// Takes the greater of two bytes.
+fn greater_byte(a: u8, b: u8) -> u8
+    ensures { λ r. ⌜ r ≡ max a b ⌝ }
+{
+    if a < b {
+        return b;
+    }
+    a
+}
+
 // Tests that the bytes from `from` on are zeros. It reads them all, many at once.
 pub fn is_blank(s: &[u8], from: usize) -> bool
     ensures { λ r. ⌜ r ≡ zeros (drop from (now (s .entry))) ⌝ }
 {
-    let mut ok = true;
+    let mut most: u8 = 0;
     let mut i = from;
     while i < s.len() {
-        ok = ok & (s[i] == 0);
+        most = greater_byte(most, s[i]);
         i += 1;
     }
-    ok
+    most == 0
 }
 
 // Stores zeros from `from` on.

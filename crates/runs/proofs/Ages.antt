@@ -79,20 +79,22 @@ module _ (a b : Age) (x : Exact a) (y : Exact b) where
       value-same : a .number .0 ≡ b .number .0 → a .pass .0 ≡ b .pass .0 → valueOf a ≡ valueOf b
       value-same n m = omega arith
 
-  pub older-pair : (ltb (a .number .0) (b .number .0) || (eqb (a .number .0) (b .number .0) && ltb (a .pass .0) (b .pass .0))) ≡ ltb (valueOf a) (valueOf b)
+  pub by-pass : a .number .0 ≡ b .number .0 → ltb (a .pass .0) (b .pass .0) ≡ ltb (valueOf a) (valueOf b)
   unfolding valueOf
-  older-pair =
+  by-pass n =
+      ⊎-elim
+      (λ (k : a .pass .0 < b .pass .0). rw (lt-ltb (a .pass .0) (b .pass .0) k, lt-ltb (valueOf a) (valueOf b) (omega arith)))
+      (λ (k : b .pass .0 ≤ a .pass .0). rw (le-ltb (a .pass .0) (b .pass .0) k, le-ltb (valueOf a) (valueOf b) (omega arith)))
+      (below (a .pass .0) (b .pass .0))
+
+  pub by-number : (a .number .0 ≡ b .number .0 → ⊥) → ltb (a .number .0) (b .number .0) ≡ ltb (valueOf a) (valueOf b)
+  unfolding valueOf
+  by-number n =
       let p = exact-pass a x in
       let q = exact-pass b y in
       ⊎-elim
-      (λ (n : a .number .0 < b .number .0). rw (lt-ltb (a .number .0) (b .number .0) n, lt-ltb (valueOf a) (valueOf b) (omega arith)))
-      (λ (n : b .number .0 ≤ a .number .0). ⊎-elim
-      (λ (m : a .number .0 ≡ b .number .0). ⊎-elim
-      (λ (k : a .pass .0 < b .pass .0). rw (le-ltb (a .number .0) (b .number .0) n, eq-eqb _ _ m, lt-ltb (a .pass .0) (b .pass .0) k, lt-ltb (valueOf a) (valueOf b) (omega arith)))
-      (λ (k : b .pass .0 ≤ a .pass .0). rw (le-ltb (a .number .0) (b .number .0) n, eq-eqb _ _ m, le-ltb (a .pass .0) (b .pass .0) k, le-ltb (valueOf a) (valueOf b) (omega arith)))
-      (below (a .pass .0) (b .pass .0)))
-      (λ (m : a .number .0 ≡ b .number .0 → ⊥). rw (le-ltb (a .number .0) (b .number .0) n, ne-eqb _ _ m, le-ltb (valueOf a) (valueOf b) (omega arith)))
-      (same (a .number .0) (b .number .0)))
+      (λ (k : a .number .0 < b .number .0). rw (lt-ltb (a .number .0) (b .number .0) k, lt-ltb (valueOf a) (valueOf b) (omega arith)))
+      (λ (k : b .number .0 ≤ a .number .0). rw (le-ltb (a .number .0) (b .number .0) k, le-ltb (valueOf a) (valueOf b) (omega arith)))
       (below (a .number .0) (b .number .0))
 
 -- of two ages the second is the later, or the first

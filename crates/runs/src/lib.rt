@@ -54,7 +54,10 @@ pub fn older(a: Age, b: Age) -> bool
     requires { ⌜ Exact a × Exact b ⌝ }
     ensures { λ r. ⌜ r ≡ ltb (valueOf a) (valueOf b) ⌝ }
 {
-    (a.number.0 < b.number.0) | ((a.number.0 == b.number.0) & (a.pass.0 < b.pass.0))
+    if a.number.0 == b.number.0 {
+        return a.pass.0 < b.pass.0;
+    }
+    a.number.0 < b.number.0
 }
 
 // Takes the later of two ages.
