@@ -2,6 +2,14 @@
 use runs::Run;
 use stripe::Extent;
 ghost use mathlib.Core.Path.{_≡_};
+ghost use mathlib.Core.Bool.{true};
+ghost use Prim.Native.Nat.{_≤_};
+ghost use lib.ListN.{length, drop};
+ghost use Rattle.common.specs.Counters.{width};
+ghost use Rattle.common.specs.Tests.{zeros};
+ghost use Rattle.xdr.specs.Be.{putBe};
+ghost use Rattle.runs.specs.Sound.{maxRuns};
+ghost use Rattle.runs.specs.Bytes.{mapSize, runPlace, soundMapBytes};
 ghost use Rattle.note.specs.Note.{Notes};
 ghost use Rattle.note.specs.Early.{noteEarly};
 
@@ -22,6 +30,17 @@ fn early(map: &[u8], log: &[u8], e: Extent, image: u64) -> u64
         return 15;
     }
     0
+}
+
+// Puts the k runs that are drawn in scratch in the place of a sound map's. Past the last run of either both have zeros, so the copy ends there.
+fn replace(map: &mut [u8], scratch: &[u8], k: usize)
+    requires { ⌜ (soundMapBytes (now map) ≡ true) × (length (now scratch) ≡ mapSize width) × (k ≤ maxRuns) × (zeros (drop (runPlace width k) (now scratch)) ≡ true) ⌝ }
+    ensures { λ _. ⌜ now (map .exit) ≡ putBe 4 (now (scratch .entry)) 0 k ⌝ }
+{
+    let most = common::greater(runbytes::count(map) as u64, k as u64) as usize;
+    let end = runbytes::place(most);
+    bytes::copy(&scratch[0..end], map);
+    runbytes::put_count(map, k);
 }
 
 // Notes a piece: appends its entry to the log, and raises the map by it.
@@ -47,6 +66,6 @@ pub fn note(map: &mut [u8], log: &mut [u8], e: Extent, image: u64) -> u64
         return 17;
     }
     runbytes::append(log, piece);
-    pen::fill(map, &scratch, raised);
+    replace(map, &scratch, raised);
     0
 }

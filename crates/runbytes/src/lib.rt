@@ -54,7 +54,7 @@ pub fn put_count(s: &mut [u8], n: usize)
 }
 
 // Finds where the run at place i starts.
-fn place(i: usize) -> usize
+pub fn place(i: usize) -> usize
     requires { ⌜ runPlace width i < 2 ^ 64 ⌝ }
     ensures { λ r. ⌜ r ≡ runPlace width i ⌝ }
 {

@@ -8,6 +8,7 @@ use denote.Ref.{now}
 use Rattle.common.specs.Counters.{width}
 use Rattle.runs.specs.Bytes.{mapSize}
 use Rattle.note.proofs.Noting.{Unrefused, note-early, unrefused, note-16, note-17, note-0}
+use Rattle.note.proofs.Replacing.{drawn-tail}
 use Rattle.note.proofs.note.Statement.{statement}
 use Rattle.note.proofs.note.Tie as tie
 
@@ -44,18 +45,22 @@ returns-3 c =
 append-requires : tie.Need-append-requires
 append-requires c κs = let p = facts (c .before .before .before .before .before .before .before .before .before .before .before .before) in (p .log .long, omega arith)
 
-fill-requires : tie.Need-fill-requires
-fill-requires c κs = let p = facts (c .before .before .before .before .before .before .before .before .before .before .before .before .before .before .before .before .before) in (p .map .long, search needs)
+replace-requires : tie.Need-replace-requires
+replace-requires c κs =
+    let t = c .before .before .before .before .before .before .before .before .before in
+    let r = t .before .before in
+    let p = facts (r .before .before .before .before .before .before) in
+    (p .mapped, search needs, t .if2 .left, drawn-tail _ _ _ (r .raised .ensures) (t .if2 .left))
 
 returns-4 : tie.Need-returns-4
 returns-4 c =
     let l = c .before .before .before .before .before .before .before in
     let t = l .before .before .before .before .before in
     let r = t .before .before in
-    note-0 _ _ _ _ (facts (r .before .before .before .before .before .before)) _ _ _ (r .raised .ensures) (t .if2 .left) _ _ (omega arith) refl (c .before .before .fill .ensures) (l .append .ensures)
+    note-0 _ _ _ _ (facts (r .before .before .before .before .before .before)) _ _ _ (r .raised .ensures) (t .if2 .left) _ _ (omega arith) refl (c .before .before .replace .ensures) (l .append .ensures)
 
 pub note-spec : {M : Type 1} → statement M
 note-spec =
     tie.close
     (tie.spec (search needs) (search needs) (search needs) (λ c. note-early _ _ _ _ _ (c .if1 .taken) (c .before .early .ensures)) sub-t15 add-t16 (search needs) raised-requires
-    (search needs) (search needs) returns-2 count-requires (search needs) (search needs) returns-3 append-requires (search needs) fill-requires (search needs) (search needs) returns-4)
+    (search needs) (search needs) returns-2 count-requires (search needs) (search needs) returns-3 append-requires (search needs) replace-requires (search needs) (search needs) returns-4)
