@@ -1,4 +1,4 @@
--- What a note answers and leaves in map and log, on bytes and for every input.
+-- What a note answers and leaves in map and log, on bytes and for every input. Document 02, #103, reads pair for number.
 use Prim.Native.Nat.{ℕ}
 use mathlib.Core.Path.{_≡_}
 use mathlib.Core.List.{List}

@@ -1,5 +1,6 @@
 -- AN ACCEPTED NOTE, TO THE BYTE. "It appends the entry and raises each byte's number in the map to the piece's where that is greater. Earlier entries
--- stay; the log changes only in the new entry's 20 bytes and the count." (A refused note changes nothing: demand 1.)
+-- stay; the log changes only in the new entry's 20 bytes and the count": 24 bytes, and pair for number, by document 02, #103. (A refused note
+-- changes nothing: demand 1.)
 use Prim.Native.Nat.{ℕ, _+_, _≤_, _<_, max}
 use mathlib.Core.Path.{_≡_}
 use mathlib.Core.Bool.{true}

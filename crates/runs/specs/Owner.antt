@@ -1,4 +1,4 @@
--- What a list of runs says of each byte.
+-- What a list of runs says of each byte. Document 01 says it of numbers; by document 02, #103, it is said of pairs, and here of their ages.
 use Prim.Native.Nat.{ℕ, max}
 use mathlib.Core.Bool.{cond}
 use mathlib.Core.List.{List, [], _∷_}
@@ -18,7 +18,7 @@ run first last a = record { first = first; last = last; age = age a }
 unfoldable pub over : Run → ℕ → ℕ
 over r b = cond (within (r .first) b (r .last)) (ageOf r) 0
 
--- The greatest number of an entry over the byte. A byte in no run has number 0
+-- "the greatest number of an entry over it". "A byte in no run has number 0"
 unfoldable pub owner : List Run → ℕ → ℕ
 owner [] b = 0
 owner (r ∷ rs) b = max (over r b) (owner rs b)

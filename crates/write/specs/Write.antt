@@ -20,7 +20,7 @@ unfoldable pub writeImage : List ℕ → Piece → List ℕ → List ℕ
 writeImage m p image =
     leaves (writeAnswer m (extentOf p) (length image)) (written (runsOf width m) (p .first) (p .bytes) (ageOf (placeOf p)) image) image
 
--- It "stores the piece's byte exactly where the map's number equals the piece's"
+-- It "stores the piece's byte exactly where the map's number equals the piece's", "at equal pairs"
 pub record Writes (m : List ℕ) (p : Piece) (image : List ℕ) (answer : ℕ) (image′ : List ℕ) : Type 0 where
   pub answers : answer ≡ writeAnswer m (extentOf p) (length image)
   pub stores : image′ ≡ writeImage m p image
