@@ -19,7 +19,7 @@ use Rattle.promises.proofs.Carried.{entriesOf, IsMap, Carried, carried,
 use Rattle.promises.proofs.Views.{covered, given, given-in, given-out, View, quiet, new, wrote, turned, view}
 use Rattle.promises.proofs.Byte.{Start, finished-drop, has-right, step}
 use Rattle.promises.proofs.Pieces.{latest}
-use Rattle.promises.proofs.Pairs.{Held, age-same, at-most, most-at, noted-held, accepted-held}
+use Rattle.promises.proofs.Pairs.{Counted, age-same, at-most, most-at, noted-counted, accepted-counted}
 
 -- the greatest age that pieces give a byte
 top : List Piece → ℕ → ℕ
@@ -87,15 +87,15 @@ demand3 log image es empty agree sent finished =
     let s : Stripe = begin log image in
     let g : Carried s = begin-carried log image empty in
     let z : (b : ℕ) → owner (entriesOf s) b ≡ 0 = λ b. ap (λ (rs : List Run). owner rs b) (none-counted log (empty .1)) in
-    let held : (q : Piece) → Among q (noted s es) → Held q = noted-held es s in
+    let counted : (q : Piece) → Among q (noted s es) → Counted q = noted-counted es s in
     record {
       some = λ b p m c.
           let L = latest (noted s es) b p m c in
-          (L .0, (L .1 .0, L .1 .1, (λ q n k. most-at q (L .0) (held q n) (held (L .0) (L .1 .0)) (L .1 .2 q n k))));
+          (L .0, (L .1 .0, L .1 .1, (λ q n k. most-at q (L .0) (counted q n) (counted (L .0) (L .1 .0)) (L .1 .2 q n k))));
       under = λ b p G.
           under es s b (ageOf p) (byteOf p b) g (omega (arith, z b))
-          (top-most (noted s es) b (ageOf p) (λ q n k. at-most q p (held q n) (held p (G .0)) (G .2 q n k))) finished
-          (λ q h k a. agree q p h (sent p (G .0)) (age-same q p (accepted-held es s q h) (held p (G .0)) a) b k (G .1))
+          (top-most (noted s es) b (ageOf p) (λ q n k. at-most q p (counted q n) (counted p (G .0)) (G .2 q n k))) finished
+          (λ q h k a. agree q p h (sent p (G .0)) (age-same q p (accepted-counted es s q h) (counted p (G .0)) a) b k (G .1))
           (inr (p, sent p (G .0), G .1, refl));
       other = λ b h. other es s b g (omega (arith, z b)) (top-most (noted s es) b 0 (λ q m c. absurd (h q m c)));
       long = long es s g;

@@ -1,4 +1,4 @@
--- P1 to P11 on bytes: messages, notes and writes on bytes follow the rules, and of the rules the table of examples holds.
+-- P1 to P11, and the rows of #103, on bytes: messages, notes and writes on bytes follow the rules, and of the rules the table of examples holds.
 use Prim.Native.Nat.{ℕ}
 use native.Mathlib.Omega.{arith}
 use mathlib.Core.Bool.{Bool, true, false, cond}

@@ -23,19 +23,15 @@ use Rattle.promises.specs.Run.{Piece, ageOf, Map, lost, live, Stripe, St
 use Rattle.promises.specs.Demand3.{HasWrite, SamePair, AtMost}
 use Rattle.promises.proofs.Members.{in-split}
 
--- its pass is one of those that 4 bytes hold
-abbrev pub Held : Piece → Type 0
-Held p = p .pass ≤ highestPass
+-- its pass is one that 4 bytes count
+abbrev pub Counted : Piece → Type 0
+Counted p = p .pass ≤ highestPass
 
-numbered-held : (p : Piece) → Numbered (extentOf p) → Held p
-numbered-held p n = sane-is (placeOf p .age) (n .sane) .most
+numbered-counted : (p : Piece) → Numbered (extentOf p) → Counted p
+numbered-counted p n = sane-is (placeOf p .age) (n .sane) .most
 
 -- age and pair
-pub same-age : (p q : Piece) → SamePair p q → ageOf p ≡ ageOf q
-unfolding valueOf
-same-age p q e = let n = e .0 in let k = e .1 in omega arith
-
-module _ (p q : Piece) (h : Held p) (k : Held q) where
+module _ (p q : Piece) (h : Counted p) (k : Counted q) where
   pub age-same : ageOf p ≡ ageOf q → SamePair p q
   unfolding valueOf
   age-same e = (omega arith, omega arith)
@@ -52,73 +48,73 @@ module _ (p q : Piece) (h : Held p) (k : Held q) where
       (λ (n : q .number ≤ p .number). let e : p .number ≡ q .number = omega arith in let m : p .pass ≤ q .pass = omega arith in inr (e, m))
       (below (p .number) (q .number))
 
--- What a run notes and writes is held
-note-held : (s : Stripe) (m : Map) (p : Piece) → noteOk s m p ≡ true → Held p
+-- What a run notes and writes is counted
+note-counted : (s : Stripe) (m : Map) (p : Piece) → noteOk s m p ≡ true → Counted p
 unfolding noteOk noteAnswer
-note-held s lost p e = never e
-note-held s (live m) p e =
-    numbered-held p
+note-counted s lost p e = never e
+note-counted s (live m) p e =
+    numbered-counted p
     (note-facts (soundMapBytes m) (soundLogBytes (s .log)) (runsOf width m) (runsOf width (s .log)) (extentOf p) (length (s .image))
     (eqb-true (noteAnswer m (s .log) (extentOf p) (length (s .image))) 0 e) .numbered)
 
-write-held : (s : Stripe) (m : Map) (p : Piece) → writeOk s m p ≡ true → Held p
+write-counted : (s : Stripe) (m : Map) (p : Piece) → writeOk s m p ≡ true → Counted p
 unfolding writeOk writeAnswer
-write-held s lost p e = never e
-write-held s (live m) p e =
-    numbered-held p
+write-counted s lost p e = never e
+write-counted s (live m) p e =
+    numbered-counted p
     (write-facts (soundMapBytes m) (runsOf width m) (extentOf p) (length (s .image)) (eqb-true (writeAnswer m (extentOf p) (length (s .image))) 0 e) .numbered)
 
-one-noted : (p q : Piece) (t : Bool) → (t ≡ true → Held p) → Among q (cond t (p ∷ []) []) → Held q
-one-noted p q true h (inl e) = subst Held (sym e) (h refl)
+one-noted : (p q : Piece) (t : Bool) → (t ≡ true → Counted p) → Among q (cond t (p ∷ []) []) → Counted q
+one-noted p q true h (inl e) = subst Counted (sym e) (h refl)
 one-noted p q true h (inr k) = absurd k
 one-noted p q false h k = absurd k
 
-one-written : (p q : Piece) (c t : Bool) → (t ≡ true → Held p) → HasWrite q (cond t (record { piece = p; whole = c } ∷ []) []) → Held q
-one-written p q c true h (inl e) = subst Held (sym e) (h refl)
+one-written : (p q : Piece) (c t : Bool) → (t ≡ true → Counted p) → HasWrite q (cond t (record { piece = p; whole = c } ∷ []) []) → Counted q
+one-written p q c true h (inl e) = subst Counted (sym e) (h refl)
 one-written p q c true h (inr k) = absurd k
 one-written p q c false h k = absurd k
 
-notes-held : (s : Stripe) (e : Step) (q : Piece) → Among q (notes s e) → Held q
+notes-counted : (s : Stripe) (e : Step) (q : Piece) → Among q (notes s e) → Counted q
 unfolding notes
-notes-held s (note p) q k = one-noted p q (noteOk s (s .map) p) (note-held s (s .map) p) k
-notes-held s (noteCut new junk p) q k = one-noted p q (new && noteOk s (s .map) p) (λ t. note-held s (s .map) p (and-right new (noteOk s (s .map) p) t)) k
-notes-held s (write p) q k = absurd k
-notes-held s (writeCut junk p) q k = absurd k
-notes-held s (restart buffer) q k = absurd k
-notes-held s (compact buffer) q k = absurd k
-notes-held s compactCut q k = absurd k
-notes-held s turn q k = absurd k
-notes-held s (turnCut new) q k = absurd k
-notes-held s cut q k = absurd k
+notes-counted s (note p) q k = one-noted p q (noteOk s (s .map) p) (note-counted s (s .map) p) k
+notes-counted s (noteCut new junk p) q k = one-noted p q (new && noteOk s (s .map) p) (λ t. note-counted s (s .map) p (and-right new (noteOk s (s .map) p) t)) k
+notes-counted s (write p) q k = absurd k
+notes-counted s (writeCut junk p) q k = absurd k
+notes-counted s (restart buffer) q k = absurd k
+notes-counted s (compact buffer) q k = absurd k
+notes-counted s compactCut q k = absurd k
+notes-counted s turn q k = absurd k
+notes-counted s (turnCut new) q k = absurd k
+notes-counted s cut q k = absurd k
 
-writes-held : (s : Stripe) (e : Step) (q : Piece) → HasWrite q (writes s e) → Held q
+writes-counted : (s : Stripe) (e : Step) (q : Piece) → HasWrite q (writes s e) → Counted q
 unfolding writes
-writes-held s (note p) q k = absurd k
-writes-held s (noteCut new junk p) q k = absurd k
-writes-held s (write p) q k = one-written p q true (writeOk s (s .map) p) (write-held s (s .map) p) k
-writes-held s (writeCut junk p) q k = one-written p q false (writeOk s (s .map) p) (write-held s (s .map) p) k
-writes-held s (restart buffer) q k = absurd k
-writes-held s (compact buffer) q k = absurd k
-writes-held s compactCut q k = absurd k
-writes-held s turn q k = absurd k
-writes-held s (turnCut new) q k = absurd k
-writes-held s cut q k = absurd k
+writes-counted s (note p) q k = absurd k
+writes-counted s (noteCut new junk p) q k = absurd k
+writes-counted s (write p) q k = one-written p q true (writeOk s (s .map) p) (write-counted s (s .map) p) k
+writes-counted s (writeCut junk p) q k = one-written p q false (writeOk s (s .map) p) (write-counted s (s .map) p) k
+writes-counted s (restart buffer) q k = absurd k
+writes-counted s (compact buffer) q k = absurd k
+writes-counted s compactCut q k = absurd k
+writes-counted s turn q k = absurd k
+writes-counted s (turnCut new) q k = absurd k
+writes-counted s cut q k = absurd k
 
 has-split : (q : Piece) (ws rest : List Write) → HasWrite q (ws ++ rest) → HasWrite q ws ⊎ HasWrite q rest
 has-split q [] rest h = inr h
 has-split q (w ∷ ws) rest (inl e) = inl (inl e)
 has-split q (w ∷ ws) rest (inr h) = ⊎-elim (λ (k : HasWrite q ws). inl (inr k)) (λ (k : HasWrite q rest). inr k) (has-split q ws rest h)
 
-pub noted-held : (es : List Step) (s : Stripe) (q : Piece) → Among q (noted s es) → Held q
+pub noted-counted : (es : List Step) (s : Stripe) (q : Piece) → Among q (noted s es) → Counted q
 unfolding noted
-noted-held [] s q k = absurd k
-noted-held (e ∷ es) s q k =
-    ⊎-elim (λ (m : Among q (notes s e)). notes-held s e q m) (λ (m : Among q (noted (next s e) es)). noted-held es (next s e) q m)
+noted-counted [] s q k = absurd k
+noted-counted (e ∷ es) s q k =
+    ⊎-elim (λ (m : Among q (notes s e)). notes-counted s e q m) (λ (m : Among q (noted (next s e) es)). noted-counted es (next s e) q m)
     (in-split q (notes s e) (noted (next s e) es) k)
 
-pub accepted-held : (es : List Step) (s : Stripe) (q : Piece) → HasWrite q (accepted s es) → Held q
+pub accepted-counted : (es : List Step) (s : Stripe) (q : Piece) → HasWrite q (accepted s es) → Counted q
 unfolding accepted
-accepted-held [] s q k = absurd k
-accepted-held (e ∷ es) s q k =
-    ⊎-elim (λ (m : HasWrite q (writes s e)). writes-held s e q m) (λ (m : HasWrite q (accepted (next s e) es)). accepted-held es (next s e) q m)
+accepted-counted [] s q k = absurd k
+accepted-counted (e ∷ es) s q k =
+    ⊎-elim (λ (m : HasWrite q (writes s e)). writes-counted s e q m) (λ (m : HasWrite q (accepted (next s e) es)). accepted-counted es (next s e) q m)
     (has-split q (writes s e) (accepted (next s e) es) k)

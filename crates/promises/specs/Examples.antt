@@ -1,5 +1,5 @@
--- The settled examples P1 to P11 of document 01, as one table, and after them those of document 02, #103. Each row is computed from the rules and
--- compared with what the document prints.
+-- The settled examples P1 to P11 of document 01, and after them four of our own for document 02, #103, as one table. Each row is computed from the
+-- rules and compared with what the document prints or, of ours, with what was worked out by hand.
 use Prim.Native.Nat.{ℕ, suc}
 use mathlib.Core.Path.{_≡_, refl}
 use mathlib.Core.Bool.{false}
@@ -119,6 +119,10 @@ second = writing (piece 3 (replicate 3 98) 1 2)
 abbrev twice : List ℕ
 twice = replicate 2 46 ++ replicate 1 97 ++ replicate 3 98 ++ replicate 4 46
 
+-- With `ccc` over `bbb` in the first pass of number 2: `..accc....`
+abbrev regranted : List ℕ
+regranted = replicate 2 46 ++ replicate 1 97 ++ replicate 3 99 ++ replicate 4 46
+
 unfoldable pub examples : List Row
 examples =
     -- P1
@@ -191,9 +195,9 @@ examples =
     ∷ joined [] []
     ∷ joined (writing (piece 8 (replicate 2 69) 4 1) ∷ []) (18 ∷ [])
     ∷ joined (noting (extent 8 0 3 1) ∷ writing (piece 8 [] 3 1) ∷ []) (14 ∷ 14 ∷ [])
-    -- #103: two passes under one number, the first resent last; then the same with a later number of pass 1, which no pass of the older one beats
+    -- #103: two passes under one number, the first resent last; then a later number of pass 1, which no pass of the older one beats
     ∷ calling (noteFirst ∷ first ∷ noteSecond ∷ second ∷ noteFirst ∷ first ∷ []) (replicate 6 0) (paired 2 2 1 1 ∷ paired 3 5 1 2 ∷ []) twice
-    ∷ calling (noting (extent 3 3 2 1) ∷ noteSecond ∷ noteFirst ∷ writing (piece 3 (replicate 3 98) 2 1) ∷ second ∷ first ∷ []) (replicate 6 0) (paired 2 2 1 1 ∷ paired 3 5 2 1 ∷ []) twice
+    ∷ calling (noting (extent 3 3 2 1) ∷ noteSecond ∷ noteFirst ∷ writing (piece 3 (replicate 3 99) 2 1) ∷ second ∷ first ∷ []) (replicate 6 0) (paired 2 2 1 1 ∷ paired 3 5 2 1 ∷ []) regranted
     -- a pass that is not noted is 18, and no pass is 15
     ∷ joined (writing (piece 8 (replicate 2 69) 3 2) ∷ []) (18 ∷ [])
     ∷ joined (noting (extent 8 2 3 0) ∷ writing (piece 8 (replicate 2 69) 3 0) ∷ noting (extent 8 2 3 4294967296) ∷ []) (15 ∷ 15 ∷ 15 ∷ [])

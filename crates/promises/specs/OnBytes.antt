@@ -1,4 +1,4 @@
--- P1 to P11 through the entries on bytes: what the outcomes that the contracts cite answer, and what the buffers then say.
+-- P1 to P11, and the rows of #103, through the entries on bytes: what the outcomes that the contracts cite answer, and what the buffers then say.
 use Prim.Native.Nat.{ℕ, _≤_}
 use mathlib.Core.Path.{_≡_}
 use mathlib.Core.Bool.{cond}

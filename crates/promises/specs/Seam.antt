@@ -1,4 +1,4 @@
--- THE SEAM, the owner's own story, as document 02, #103, has it. A session of the lock entries gives two write grants of a stripe, the i-th and, later,
+-- THE SEAM, the owner's own story, with the passes of document 02, #103. A session of the lock entries gives two write grants of a stripe, the i-th and, later,
 -- the j-th. A run of the stripe's entries, with cuts, restarts and compactions anywhere, under demand 3's premises: each grant flushes pieces with its
 -- number over the byte b, pass by pass. Then at the end the byte is the later grant's, and within one grant the later pass's, in whatever order the
 -- flushes arrived, the earlier ones resent last too.
@@ -33,7 +33,7 @@ abbrev pub Over : List Piece → ℕ → ℕ → Piece → Type 0
 Over ps n b p = Among p ps × (p .number ≡ n) × Covers p b
 
 pub record Seam : Type 0 where
-  -- "of two grants the later one's byte stands": every noted piece over b is of one of the two grants, and `later` has the later one's greatest pass
+  -- Of two grants the later one's byte stands: every noted piece over b is of one of the two grants, and `later` has the later one's greatest pass
   pub grants :
       (ms : List Message) (es : List Event) (v : List ℕ) → Session (replicate (tableSize width) 0) ms es v
       → (s i j : ℕ) → i < j → j < length (numbers s es)
@@ -44,7 +44,7 @@ pub record Seam : Type 0 where
       → ((p : Piece) → Among p (noted (begin log image) run) → Covers p b
       → (p .number ≡ numberAt s es i) ⊎ ((p .number ≡ numberAt s es j) × (p .pass ≤ later .pass)))
       → getD (after (begin log image) run .image) b 0 ≡ byteOf later b
-  -- "and within one grant the later pass's": every noted piece over b has the grant's number n, and `later` the greatest pass
+  -- And within one grant the later pass's: every noted piece over b has the grant's number n, and `later` the greatest pass
   pub passes :
       (log image : List ℕ) (run : List Step) → Flushes log image run
       → (n b : ℕ) (earlier later : Piece)

@@ -131,7 +131,7 @@ pub fn append(log: &mut [u8], r: Run)
 }
 
 // Tests that every run is valid: none falls, the greatest last byte is not past EOF, and the least number and the least pass are
-// at least 1.
+// at least 1. The pass comes from its own reader, which says that 4 bytes hold none above the highest.
 fn all_valid(s: &[u8]) -> bool
     requires { ⌜ runsEnd width (now s) ≤ length (now s) ⌝ }
     ensures { λ r. ⌜ r ≡ allValid (runsOf width (now (s .entry))) ⌝ }

@@ -53,7 +53,7 @@ sane-is a e = search (and-left, and-right, ltb-true, leb-true)
 pub sane-exact : (a : Age) → sane a ≡ true → Exact a
 sane-exact a e = pass-exact a (sane-is a e .most)
 
--- "age is judged by number first and pass second": two ages whose passes are at most the highest
+-- the age of no run has number 0 and pass 0
 pub none-pair : (a : Age) → (eqb (a .number .0) 0 && eqb (a .pass .0) 0) ≡ eqb (valueOf a) 0
 unfolding valueOf
 none-pair a =
@@ -62,6 +62,7 @@ none-pair a =
     (λ (n : a .number .0 ≡ 0 → ⊥). rw (ne-eqb (a .number .0) 0 n, ne-eqb (valueOf a) 0 (λ (e : valueOf a ≡ 0). n (omega arith))))
     (same (a .number .0) 0)
 
+-- "age is judged by number first and pass second": two ages whose passes are at most the highest
 module _ (a b : Age) (x : Exact a) (y : Exact b) where
   pub same-pair : (eqb (a .number .0) (b .number .0) && eqb (a .pass .0) (b .pass .0)) ≡ eqb (valueOf a) (valueOf b)
   unfolding valueOf

@@ -1,8 +1,8 @@
 -- A run in front of others: it and the first of them are one run, or they differ.
 use Prim.Native.Nat.{ℕ, suc, _+_, _≤_, _<_, max}
-use mathlib.Core.Path.{_≡_, refl, sym}
+use mathlib.Core.Path.{_≡_, refl, sym, ap₂, subst}
 use mathlib.Core.Logic.{_⊎_, inl, inr}
-use mathlib.Core.Bool.{Bool, true, false, cond}
+use mathlib.Core.Bool.{Bool, true, false, _&&_, cond}
 use mathlib.Core.List.{List, _∷_}
 use native.Mathlib.Omega.{arith}
 use lib.Dec.{eqb}
@@ -24,7 +24,7 @@ pub joined : (r t : Run) → Joins r t (joins r t)
 joined r t = go (same (r .last + 1) (t .first)) (same (ageOf r) (ageOf t))
   where
     go : (r .last + 1 ≡ t .first) ⊎ (r .last + 1 ≡ t .first → ⊥) → (ageOf r ≡ ageOf t) ⊎ (ageOf r ≡ ageOf t → ⊥) → Joins r t (joins r t)
-    go (inl u) (inl v) = rw (eq-eqb (r .last + 1) (t .first) u, eq-eqb (ageOf r) (ageOf t) v) (one u v)
+    go (inl u) (inl v) = subst (Joins r t) (sym (ap₂ _&&_ (eq-eqb (r .last + 1) (t .first) u) (eq-eqb (ageOf r) (ageOf t) v))) (one u v)
     go (inl u) (inr d) = rw (ne-eqb (ageOf r) (ageOf t) d, and-false (eqb (r .last + 1) (t .first))) (two (λ _ v. d v))
     go (inr d) w = rw (ne-eqb (r .last + 1) (t .first) d) (two (λ u _. d u))
 

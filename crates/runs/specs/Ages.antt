@@ -1,5 +1,5 @@
--- Ages: by what runs and pieces are judged. Document 02, #103: "age is judged by number first and pass second". Everything else speaks of an age by
--- its one ℕ.
+-- Ages: by what runs and pieces are judged. Document 02, #103: "age is judged by number first and pass second". What is judged
+-- speaks of an age by its one ℕ.
 use Prim.Native.Nat.{ℕ, _+_, _*_, _-_, _/_, _%_, _^_}
 use mathlib.Core.Path.{_≡_}
 use Rattle.common.specs.Counters.{number}

@@ -8,7 +8,7 @@ ghost use Rattle.runs.specs.Ages.{valueOf, age, Exact};
 // The highest pass: what its 4 bytes hold.
 pub const HIGHEST_PASS: u64 = 4294967295;
 
-// A pass tells the flushes under one lock apart. The client counts it, from 1.
+// A pass tells apart what a client writes to one byte under one lock. It counts passes from 1.
 pub struct Pass(pub u64);
 
 // By what runs and pieces are judged: the number of their grant first, and the pass second.

@@ -23,7 +23,7 @@ use Rattle.runs.proofs.Ages.{highestAge, fits-age, sane-pos, sane-exact}
 use Rattle.runs.specs.Valid.{Valid}
 use Rattle.stripe.specs.declared.Extent.{Extent}
 use Rattle.stripe.specs.Piece.{place}
-use Rattle.stripe.specs.Refusals.{misplaced, uncounted, misnumbered, behind, noteRules, writeRules, restartRules, compactRules}
+use Rattle.stripe.specs.Refusals.{misplaced, zeroOrAbove, misnumbered, behind, noteRules, writeRules, restartRules, compactRules}
 
 -- Refusal 14
 pub record Placed (e : Extent) (image : ℕ) : Type 0 where
@@ -39,21 +39,21 @@ pub record Numbered (e : Extent) : Type 0 where
   pub sane : sane (place e .age) ≡ true
   pub fits : ageOf (place e) ≤ highestAge
 
-counted-least : (most n : ℕ) → uncounted most n ≡ false → 0 < n
-counted-least most n h = search (or-left, not-zero)
+above-zero : (most n : ℕ) → zeroOrAbove most n ≡ false → 0 < n
+above-zero most n h = search (or-left, not-zero)
 
-counted-most : (most n : ℕ) → uncounted most n ≡ false → n ≤ most
-counted-most most n h = search (or-right, ltb-false)
+not-above : (most n : ℕ) → zeroOrAbove most n ≡ false → n ≤ most
+not-above most n h = search (or-right, ltb-false)
 
 pub numbered : (e : Extent) → misnumbered e ≡ false → Numbered e
 unfolding sane
 numbered e h =
-    let n : uncounted (highest width) (e .age .number .0) ≡ false = or-left (uncounted (highest width) (e .age .number .0)) (uncounted highestPass (e .age .pass .0)) h in
-    let p : uncounted highestPass (e .age .pass .0) ≡ false = or-right (uncounted (highest width) (e .age .number .0)) (uncounted highestPass (e .age .pass .0)) h in
-    let a = counted-least (highest width) (e .age .number .0) n in
-    let b = counted-least highestPass (e .age .pass .0) p in
-    let c = counted-most highestPass (e .age .pass .0) p in
-    record { sane = rw (lt-ltb 0 (e .age .number .0) a, lt-ltb 0 (e .age .pass .0) b, le-leb (e .age .pass .0) highestPass c); fits = fits-age (e .age) (counted-most (highest width) (e .age .number .0) n) c }
+    let n : zeroOrAbove (highest width) (e .age .number .0) ≡ false = or-left (zeroOrAbove (highest width) (e .age .number .0)) (zeroOrAbove highestPass (e .age .pass .0)) h in
+    let p : zeroOrAbove highestPass (e .age .pass .0) ≡ false = or-right (zeroOrAbove (highest width) (e .age .number .0)) (zeroOrAbove highestPass (e .age .pass .0)) h in
+    let a = above-zero (highest width) (e .age .number .0) n in
+    let b = above-zero highestPass (e .age .pass .0) p in
+    let c = not-above highestPass (e .age .pass .0) p in
+    record { sane = rw (lt-ltb 0 (e .age .number .0) a, lt-ltb 0 (e .age .pass .0) b, le-leb (e .age .pass .0) highestPass c); fits = fits-age (e .age) (not-above (highest width) (e .age .number .0) n) c }
 
 pub numbered-pos : (e : Extent) → Numbered e → 0 < ageOf (place e)
 numbered-pos e n = sane-pos (place e .age) (n .sane)

@@ -21,11 +21,11 @@ abbrev pub misplaced : Extent → ℕ → Bool
 misplaced e image = eqb (e .len) 0 || (ltb image (e .first + e .len) || ltb eof (pred (e .first + e .len)))
 
 -- 15: "number 0 or above 4,294,967,295", "also for pass 0 or above 4,294,967,295"
-abbrev pub uncounted : ℕ → ℕ → Bool
-uncounted most n = eqb n 0 || ltb most n
+abbrev pub zeroOrAbove : ℕ → ℕ → Bool
+zeroOrAbove most n = eqb n 0 || ltb most n
 
 abbrev pub misnumbered : Extent → Bool
-misnumbered e = uncounted (highest width) (e .age .number .0) || uncounted highestPass (e .age .pass .0)
+misnumbered e = zeroOrAbove (highest width) (e .age .number .0) || zeroOrAbove highestPass (e .age .pass .0)
 
 -- 18: "some byte of the piece has a smaller number in the map", "given where the map's pair is smaller": one of the `len` bytes from b on
 unfoldable pub behind : List Run → ℕ → ℕ → ℕ → Bool

@@ -1,4 +1,4 @@
--- `all_valid`: what has soFar, and the runs from place i on, decide as the whole.
+-- `all_valid`: what is tested so far, and the runs from place i on, decide as the whole.
 use Prim.Native.Nat.{ℕ, _-_, _≤_, min}
 use native.Mathlib.Omega.{arith}
 use mathlib.Core.Path.{_≡_, refl, sym, _∙_, ap}
