@@ -56,16 +56,22 @@ extern "C" {
  * the second, so each piece carries a pass: its age is judged by number first and pass second. The client counts:
  *   - From 1 under each lock, with one count for the lock, from its grant to its release. A downgrade does not change
  *     that. The next lock has a greater number, so it starts at 1 again.
- *   - Before it writes anew to a byte that it has put into a piece of the present pass, it takes the next pass. Simplest
- *     is one pass for each flush. Passes may be skipped.
+ *   - A new piece gets the present pass at the moment when its bytes are copied from the cache, whenever they were
+ *     written. No new piece is made under an earlier pass.
+ *   - Before the client writes anew to a byte that it has copied into a piece of the present pass, it takes the next
+ *     pass. Simplest is one pass for each flush. Passes may be skipped.
  *   - It may count on at any time, also while pieces of earlier passes are not confirmed.
  *   - A resend has the same bytes, number and pass. So the client keeps each piece as it was sent until its write is
- *     confirmed. What it wrote since goes out under a later pass.
+ *     confirmed.
  *   - Pieces of earlier passes have to be written to the end like any other. One that is noted and not written holds
  *     nothing back, but leaves its bytes undone where no later one covers them.
  *   - At GIL_HIGHEST_PASS it flushes, releases the lock, and requests again.
- *   - A client that starts again and does not know how far it had counted uses no pass of a lock that it still holds: it
- *     releases the lock, and requests anew.
+ *
+ * A client that starts again and has lost its count, or pieces that were not confirmed, sends nothing more under the
+ * locks that it still holds: it could use a pass twice. What it had cached is lost, and bytes of a piece that was noted
+ * and not written to its end hold what the cut left there; of these the end of part 2 promises nothing. The client
+ * releases the locks, though not every piece is written, requests anew, and writes again every byte that it may have
+ * flushed without an answer: then a greater pair owns it.
  */
 
 /* 2. Cuts: what must be durable, and in which order
@@ -126,7 +132,7 @@ extern "C" {
  * and start the log again.
  *
  * A log that starts again. Only when no older piece can come any more: every write lock of the stripe is
- * released, and every noted piece is written. Then put down 0 for the count of the stored log as one store, wait
+ * released, and every noted piece is written, or lost with its client (part 1). Then put down 0 for the count of the stored log as one store, wait
  * until it is durable, and restart: log and map are empty. Keep the table: its numbers go on rising.
  * A way there: request PW for bytes 0 to EOF of the stripe, for a client number of your own. It has no pieces, so it
  * may be handed in at any time. It asks every lock of the stripe back, and later requests wait behind it. Once it is
@@ -148,10 +154,13 @@ extern "C" {
  * on with one, put 4 zero bytes after each of its records, and zeros after the last one up to 11,336.
  *
  * Until there were passes a run and an entry had 20 bytes, a map 20,484 and a log 40,964. Such a map is refused with
- * MAP, and such a log with LOG. To go on with such a log, put pass 1, the bytes 0, 0, 0 and 1, after the number of each
- * of its entries, and zeros after the last one up to 49,156; the count stays. Put the new log down beside the old one,
- * and turn to it as to a compacted one (part 2). The map comes from a restart. Pieces that are still out are then of
- * pass 1, and each lock that is still held is in its pass 1.
+ * MAP, and such a log with LOG. The way to go on: with the library as it was, let every holder of the stripe flush and
+ * release, as for a log that starts again (part 2), and then start with a log of zeros.
+ * Where that can't be, and only if no byte was flushed twice under a lock of which a piece may still come: put pass 1,
+ * the bytes 0, 0, 0 and 1, after the number of each of the log's entries, and zeros after the last one up to 49,156; the
+ * count stays. Put the new log down beside the old one, and turn to it as to a compacted one (part 2). The map comes from
+ * a restart. Pieces that are still out are then of pass 1, and each lock that is still held is in its pass 1. (Two
+ * flushes of one byte would both be of pass 1, and the one that comes last would stand.)
  */
 #define GIL_TABLE_BYTES 11336       /* handles issued, 16 last numbers, array of records; zeros after it */
 #define GIL_EVENTS_BYTES 11268      /* array of events; bytes after it stay as they are */
@@ -432,7 +441,8 @@ GIL_CHECKED gil_answer gil_downgrade(uint8_t *table, size_t table_len, uint8_t *
  *
  * Takes: the table, the event buffer, the client, and the handle.
  * Answers: the same handle, which no record has from now on. Its record's room is used again.
- * Never: waits for the lock's pieces. Release only once each of them, of every pass, is written.
+ * Never: waits for the lock's pieces. Release only once each of them, of every pass, is written; a client that has lost
+ *   them goes by 'Passes' in part 1.
  * Refusals, in this order: EVENT_BUFFER, TABLE, CLIENT, NO_RECORD, OTHER_CLIENT.
  */
 GIL_CHECKED gil_answer gil_release(uint8_t *table, size_t table_len, uint8_t *events, size_t events_len,
