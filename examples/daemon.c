@@ -25,7 +25,8 @@
  * answer sends its write again, and where that is refused with 18, its note was lost too: it flushes again. Bytes,
  * number and pass stay the same.
  *
- * A log of 40,964 bytes has no passes. The daemon says so and ends, and the log stays as it is.
+ * A log of 40,964 bytes has no passes. Where the word names one the daemon says so and ends; logs and image stay as they
+ * are.
  */
 #define _POSIX_C_SOURCE 200809L
 #include <fcntl.h>
@@ -46,7 +47,6 @@
 #endif
 
 #define WORD_BYTES 4
-#define LOG_BYTES_WITHOUT_PASSES 40964 /* until there were passes */
 
 struct stripe {
     uint8_t map[GIL_MAP_BYTES]; /* in memory alone: a cut loses it */
@@ -73,9 +73,10 @@ static void make_durable(uint8_t *mapped, size_t first, size_t length)
         die("msync");
 }
 
-/* Maps a file of this length; makes it of zero bytes where it is missing. What a killed daemon stored may not be
- * durable yet, and the answers to come rest on it: so that is waited for. */
-static uint8_t *map_file(int directory, const char *name, size_t length)
+/* Maps a file of this length; makes it of zero bytes where it is missing. One of another length stays as it is, and the
+ * hint says what to do about it. What a killed daemon stored may not be durable yet, and the answers to come rest on it:
+ * so that is waited for. */
+static uint8_t *map_file(int directory, const char *name, size_t length, const char *hint)
 {
     struct stat status;
     int file = openat(directory, name, O_RDWR | O_CREAT, 0666);
@@ -84,9 +85,7 @@ static uint8_t *map_file(int directory, const char *name, size_t length)
     if (status.st_size == 0 && (ftruncate(file, (off_t)length) != 0 || fsync(file) != 0 || fsync(directory) != 0))
         die(name);
     if (status.st_size != 0 && (uintmax_t)status.st_size != length) {
-        fprintf(stderr, "%s: it has %jd bytes, not %zu\n", name, (intmax_t)status.st_size, length);
-        if (length == GIL_LOG_BYTES && status.st_size == LOG_BYTES_WITHOUT_PASSES)
-            fputs("This log has no passes, and stays as it is: gilboreth.h, part 3, tells how to go on.\n", stderr);
+        fprintf(stderr, "%s: it has %jd bytes, not %zu. %s\n", name, (intmax_t)status.st_size, length, hint);
         exit(1);
     }
     void *mapped = mmap(NULL, length, PROT_READ | PROT_WRITE, MAP_SHARED, file, 0);
@@ -254,15 +253,19 @@ int main(int count, char **words)
     int directory = open(words[1], O_RDONLY | O_DIRECTORY);
     if (directory < 0)
         die(words[1]);
-    s.image_length = (size_t)length;
-    s.image = map_file(directory, "image", s.image_length);
-    s.logs[0] = map_file(directory, "log", GIL_LOG_BYTES);
-    s.logs[1] = map_file(directory, "log2", GIL_LOG_BYTES);
-    s.turn = map_file(directory, "turn", WORD_BYTES);
-    if (gil_u32_at(s.turn) > 1) {
-        fprintf(stderr, "turn: it has %" PRIu32 "; 0 names log, 1 names log2\n", gil_u32_at(s.turn));
+    s.turn = map_file(directory, "turn", WORD_BYTES, "It is a word of 4 bytes.");
+    uint32_t used = gil_u32_at(s.turn);
+    if (used > 1) {
+        fprintf(stderr, "turn: it has %" PRIu32 "; 0 names log, 1 names log2\n", used);
         return 1;
     }
+    static const char *const names[2] = {"log", "log2"};
+    s.logs[used] = map_file(directory, names[used], GIL_LOG_BYTES,
+                            "It is the log in use. One of 40964 bytes has no passes: gilboreth.h, part 3, tells how to go on.");
+    s.logs[1 - used] = map_file(directory, names[1 - used], GIL_LOG_BYTES,
+                                "It is not the log in use, and what stands in it is of no use: remove it.");
+    s.image_length = (size_t)length;
+    s.image = map_file(directory, "image", s.image_length, "Start with the length that the image has.");
 
     /* No note and no write before a restart has answered 0. */
     uint64_t refusal = restart(&s);
