@@ -74,10 +74,11 @@ pub struct Number(pub u64);
 
 /// A pass: counted by the client from 1 under each lock.
 ///
-/// A client may flush, keep its lock and write again. It takes the next pass before it writes anew to a
-/// byte that it has flushed under this lock. A resend sends the same bytes with the same pass. So pieces
-/// of one number and one pass agree wherever they overlap, and the later of two flushes wins, whichever
-/// arrives last. At the highest pass, 4,294,967,295, the client flushes, releases its lock and requests
+/// A client may flush, keep its lock and write again. A new piece gets the present pass when its bytes are
+/// copied from the cache. Before the client writes anew to a byte that it has copied into a piece of the
+/// present pass, it takes the next pass. A resend sends the same bytes with the same pass. So pieces of one
+/// number and one pass agree wherever they overlap, and the later of two flushes wins, whichever arrives
+/// last. At the highest pass, 4,294,967,295, the client flushes, releases its lock and requests
 /// again.
 ///
 /// A pass is not passed for a number either:

@@ -123,12 +123,20 @@ fn runs_of_pass_0() {
     let scenes: [Scene; 2] = [damage::each_run, edges::fields];
     let notes: [Note; 2] = [
         |map, log, piece, image_length| {
-            map.copy_from_slice(&mended(map));
-            (LIBRARY.note)(map, log, piece, image_length)
+            let mut taken = mended(map);
+            let answer = (LIBRARY.note)(&mut taken, log, piece, image_length);
+            if answer == 0 {
+                map.copy_from_slice(&taken);
+            }
+            answer
         },
         |map, log, piece, image_length| {
-            log.copy_from_slice(&mended(log));
-            (LIBRARY.note)(map, log, piece, image_length)
+            let mut taken = mended(log);
+            let answer = (LIBRARY.note)(map, &mut taken, piece, image_length);
+            if answer == 0 {
+                log.copy_from_slice(&taken);
+            }
+            answer
         },
     ];
     let write: Write = |map, image, piece| (LIBRARY.write)(&mended(map), image, piece);

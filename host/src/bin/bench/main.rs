@@ -9,7 +9,7 @@ use gilboreth_host::logs::kinds;
 use gilboreth_host::model::list::LIST_EVENTS_BYTES;
 use gilboreth_host::model::locks::{encode, EVENTS_BYTES};
 use gilboreth_host::model::modes::{Mode, State};
-use gilboreth_host::model::runs::{Run, ENTRIES};
+use gilboreth_host::model::runs::{Age, Run, ENTRIES};
 use gilboreth_host::model::stripe::{encode_log, encode_map, Piece, LOG_BYTES, MAP_BYTES};
 use gilboreth_host::model::table::{Record, Table};
 use gilboreth_host::model::EOF;
@@ -62,32 +62,44 @@ fn apart(count: u64) -> Vec<Run> {
     (0..count).map(|place| Run::new(5 * place, 5 * place + 2, 5, 1)).collect()
 }
 
-/// A piece in the middle that meets two runs, with a log of as many entries.
+/// A piece in the middle that meets two runs, with a log of as many entries: of the next number, or of the
+/// next pass.
 fn notes() {
-    for count in [0, 100, 1_000] {
+    for (count, (number, pass), which) in [
+        (0, (6, 1), ""),
+        (100, (6, 1), ""),
+        (1_000, (6, 1), ""),
+        (1_000, (5, 2), ", of a later pass"),
+    ] {
         let runs = apart(count);
-        let first = 5 * (count / 2) + 1;
+        let piece = Piece::new(5 * (count / 2) + 1, 6, number, pass);
         Case {
-            name: format!("note at {count} runs"),
+            name: format!("note at {count} runs{which}"),
             buffers: [encode_map(&runs), encode_log(&runs)],
-            call: &|calls, map, log| (calls.note)(map, log, Piece::new(first, 6, 6, 1), 10_000),
+            call: &|calls, map, log| (calls.note)(map, log, piece, 10_000),
         }
         .row();
     }
 }
 
-/// A piece in the middle of the image. Over 1,000 runs, every other one has its number.
+/// A piece in the middle of the image. Over 1,000 runs, every other one has its age; the others have the
+/// next number, or the next pass.
 fn writes() {
     for (length, name) in [(4_096, "4 KiB"), (1_048_576, "1 MiB")] {
-        for count in [1, 1_000] {
+        for (count, (number, pass), which) in [
+            (1, (5, 1), ""),
+            (1_000, (6, 1), "s, half of it stored"),
+            (1_000, (5, 2), "s, half by its pass"),
+        ] {
             let border = |place: u64| 100 + length * place / count;
-            let run = |place: u64| Run::new(border(place), border(place + 1) - 1, 5 + place % 2, 1);
+            let age = |place| [Age::new(5, 1), Age::new(number, pass)][(place % 2) as usize];
+            let run =
+                |place| Run { first: border(place), last: border(place + 1) - 1, age: age(place) };
             let runs: Vec<Run> = (0..count).map(run).collect();
             let piece = vec![0xEE; length as usize];
             let wanted = if length > 4_096 && count == 1 { 0.8 } else { 0.0 };
-            let half = if count == 1 { "" } else { "s, half of it stored" };
             Case {
-                name: format!("write of {name} over {count} run{half}"),
+                name: format!("write of {name} over {count} run{which}"),
                 buffers: [encode_map(&runs), vec![0; length as usize + 200]],
                 call: &|calls, map, image| (calls.write)(map, image, Piece::new(100, &piece, 5, 1)),
             }
