@@ -30,7 +30,7 @@ use Rattle.promises.specs.OnBytes.{answers, bytesAfter, runsIn}
 use Rattle.promises.proofs.Carried as c
 use Rattle.promises.proofs.Carried.{Carried, carried, same-log, same-map}
 
-abbrev stripe : List ℕ → List ℕ → List ℕ → Stripe
+abbrev pub stripe : List ℕ → List ℕ → List ℕ → Stripe
 stripe m log image = record { map = live m; log = log; second = none; image = image }
 
 -- what the buffers say
@@ -47,15 +47,15 @@ module _ (m log image : List ℕ) (C : Carried (stripe m log image)) where
   logs : soundLogBytes log ≡ soundLog (runsOf width log)
   logs = bytes-log log (C .log .sound) ∙ sym (C .log .sound .sound)
 
-  note-answer : (e : Extent) → noteAnswer m log e (length image) ≡ note x e .refusal
+  pub note-answer : (e : Extent) → noteAnswer m log e (length image) ≡ note x e .refusal
   unfolding noteAnswer note
   note-answer e = ap₂ (λ (a b : Bool). firstHit (noteRules a b (runsOf width m) (runsOf width log) e (length image))) maps logs
 
-  write-answer : (p : Piece) → writeAnswer m (extentOf p) (length image) ≡ write x p .refusal
+  pub write-answer : (p : Piece) → writeAnswer m (extentOf p) (length image) ≡ write x p .refusal
   unfolding writeAnswer write
   write-answer p = ap (λ (a : Bool). firstHit (writeRules a (runsOf width m) (extentOf p) (length image))) maps
 
-  write-stripe : (p : Piece) → decoded (stripe m log (writeImage m p image)) ≡ write x p .stripe
+  pub write-stripe : (p : Piece) → decoded (stripe m log (writeImage m p image)) ≡ write x p .stripe
   unfolding writeImage write
   write-stripe p =
       go (eqb (writeAnswer m (extentOf p) (length image)) 0)
@@ -65,7 +65,7 @@ module _ (m log image : List ℕ) (C : Carried (stripe m log image)) where
       go true = refl
       go false = refl
 
-  note-stripe : (p : Piece) → decoded (next (stripe m log image) (run.note p)) ≡ note x (extentOf p) .stripe
+  pub note-stripe : (p : Piece) → decoded (next (stripe m log image) (run.note p)) ≡ note x (extentOf p) .stripe
   unfolding next afterNote note
   note-stripe p = go (eqb a 0) refl ∙ ap (λ (n : ℕ). cond (eqb n 0) (noted x r) x) (note-answer (extentOf p))
     where

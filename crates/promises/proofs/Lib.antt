@@ -22,3 +22,4 @@ pub mod Demand3
 pub mod Room
 pub mod Seam
 pub mod OnBytes
+pub mod Premises

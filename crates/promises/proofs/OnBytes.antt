@@ -80,7 +80,7 @@ imageOf : Row → List ℕ
 imageOf (sending sent printed) = []
 imageOf (calling made answered m image) = image
 
-begins : (log : List ℕ) → EmptyLog log → decoded (begin log dots) ≡ examples.begin
+pub begins : (log : List ℕ) → EmptyLog log → decoded (begin log dots) ≡ examples.begin
 begins log E = λ i. record { map = no-runs (mapSize width) i; log = none-counted log (E .1) i; image = dots }
 
 row-holds : (r : Row) → computed r ≡ r → RowHolds r

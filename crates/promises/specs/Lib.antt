@@ -11,3 +11,4 @@ pub mod Room
 pub mod Seam
 pub mod Examples
 pub mod OnBytes
+pub mod Premises
