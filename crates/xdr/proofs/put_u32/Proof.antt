@@ -11,7 +11,7 @@ returns : tie.Need-returns
 unfolding put_be
 returns c =
     let b = c.before.before in
-    rw (add-zero, b.before.low.ensures, b.low2.ensures, c.before.low3.ensures, c.low4.ensures)
+    rw (add-zero, b.before.low.ensures, b.low-2.ensures, c.before.low-3.ensures, c.low-4.ensures)
 
 -- a line for each byte
 pub put_u32_spec : {M : Type 1} → statement M
