@@ -1,4 +1,6 @@
 // What the lock table and the stripe share: the two counters and their bytes, ranges of bytes, refusals, tests over lists.
+#![tactic(auto)]
+
 ghost use Rattle.std.specs.Prelude.{◌≡◌, ◌+◌, ◌^◌, ◌≤◌, ◌<◌, min, max, length, drop};
 ghost use Rattle.xdr.specs.Be.{be, put_be};
 ghost use Rattle.common.specs.Counters.{width};

@@ -1,4 +1,6 @@
 // Unsigned integers of RFC 4506 in a slice of bytes: big-endian, 4 bytes, or 8 for a hyper.
+#![tactic(auto)]
+
 ghost use Rattle.std.specs.Prelude.{◌≡◌, ◌+◌, ◌%◌, ◌^◌, ◌≤◌, ◌<◌, length};
 ghost use Rattle.xdr.specs.Be.{be, put_be};
 

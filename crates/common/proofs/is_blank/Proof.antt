@@ -22,21 +22,21 @@ both_zero a b m e =
     (λ (u : a ≡ 0 → ⊥). rw (ne_eqb a 0 u, ne_eqb m 0 (λ (z : m ≡ 0). u (omega arith))))
     (same a 0)
 
-abbrev invariant-loop : tie.invariant-loop
+abbrev invariant-loop : tie.invariant-loop-i
 invariant-loop s from most₀ i₀ most i = (eqb most 0 && zeros (drop i s)) ≡ zeros (drop from s)
 
-abbrev decreases-loop : tie.decreases-loop
+abbrev decreases-loop : tie.decreases-loop-i
 decreases-loop s from most₀ i₀ most i = length s - i
 
-loop-again : tie.Need-loop-preserved invariant-loop decreases-loop
+loop-again : tie.Need-loop-i-preserved invariant-loop decreases-loop
 loop-again c =
-    let l = c.before.before.before.loop in
-    rw (both_zero l.most _ _ c.greater-byte.ensures)
+    let l = c.before.before.before.loop-i in
+    rw (both_zero l.most _ _ c.greater_byte-most.ensures)
     (rest_more (λ b. eqb b 0) 0 c.before.before.before.before.before.args.s.now l.i _ (eqb l.most 0) _ refl (omega arith) l.invariant)
 
 returns : tie.Need-returns invariant-loop decreases-loop
 returns c =
-    let l = c.before.loop in
+    let l = c.before.loop-i in
     rest-none (λ b. eqb b 0) 0 c.before.before.before.args.s.now l.i _ (eqb l.most 0) (omega arith) l.invariant
 
 pub is_blank_spec : {M : Type 1} → statement M
