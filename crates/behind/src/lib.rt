@@ -1,4 +1,6 @@
 // Refusal 18: whether the map is behind a piece, run by run.
+#![tactic(auto)]
+
 ghost use Rattle.std.specs.Prelude.{◌≡◌, true, ◌+◌, ◌^◌, ◌<◌};
 ghost use Rattle.common.specs.Counters.{width};
 ghost use Rattle.runs.specs.Ages.{value_of, Exact};

@@ -1,4 +1,6 @@
 // Copying bytes, a long stretch block by block.
+#![tactic(auto)]
+
 ghost use Rattle.std.specs.Prelude.{◌≡◌, length};
 
 // How many bytes of a long stretch go at once.

@@ -14,11 +14,11 @@ pub const EOF: u64 = 9223372036854775807;
 pub const HIGHEST: u64 = 4294967295;
 
 // A handle names a lock record. Handles are counted over all stripes, from 1.
-#[derive(Drop)]
+#[derive(Clone, Copy)]
 pub struct Handle(pub u64);
 
 // A sequence number orders the write grants of one stripe, from 1.
-#[derive(Drop)]
+#[derive(Clone, Copy)]
 pub struct Number(pub u64);
 
 // How many bytes a counter has: a handle, or a number.

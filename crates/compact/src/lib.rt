@@ -1,4 +1,6 @@
 // Compaction: a second log, with just the runs of a log's map.
+#![tactic(auto)]
+
 ghost use Rattle.std.specs.Prelude.{◌≡◌, length, replicate};
 ghost use Rattle.common.specs.Counters.{width};
 ghost use Rattle.runs.specs.Bytes.{map_size};

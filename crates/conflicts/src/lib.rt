@@ -1,4 +1,6 @@
 // The questions that settling asks of a table's bytes: whom a record conflicts with, who keeps it waiting, hurries it, cuts its range, wants it.
+#![tactic(auto)]
+
 ghost use Rattle.std.specs.Prelude.{◌≡◌, ◌-◌, ◌<◌, length};
 ghost use Rattle.common.specs.Counters.{width};
 ghost use Rattle.common.specs.Ranges.{eof};

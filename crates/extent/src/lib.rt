@@ -1,4 +1,6 @@
 // A piece's extent: the tests that note and write share, refusals 14 and 15.
+#![tactic(auto)]
+
 ghost use Rattle.std.specs.Prelude.{◌≡◌};
 ghost use Rattle.stripe.specs.Refusals.{misplaced, misnumbered};
 

@@ -1,4 +1,6 @@
 // Judging a message on the bytes of a sound table: its refusal, or the record that it names and what that becomes. Nothing is changed.
+#![tactic(auto)]
+
 ghost use Rattle.std.specs.Prelude.{◌≡◌};
 ghost use Rattle.common.specs.Counters.{width};
 ghost use Rattle.common.specs.Refusals.{first_hit};
@@ -59,7 +61,7 @@ pub fn find(t: &[u8], n: usize, h: Handle) -> usize
 }
 
 // What a client's message on a handle finds: its refusal by 3, 9 and 10, or 0 and the place of its record.
-#[derive(Drop)]
+#[derive(Clone, Copy)]
 pub struct Found {
     pub refusal: u64,
     pub place: usize,
@@ -97,7 +99,7 @@ pub fn named(t: &[u8], n: usize, client: u64, handle: Handle) -> Found
 }
 
 // What a client's message makes of its record: an acknowledge makes an asked one canceling, a downgrade makes a canceling BW or PW one NBW.
-#[derive(Drop)]
+#[derive(Clone, Copy)]
 pub enum Becomes {
     Canceling,
     Nbw,

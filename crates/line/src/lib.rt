@@ -1,4 +1,6 @@
 // Reads a line: tells what it says, a message or nothing.
+#![tactic(auto)]
+
 ghost use Rattle.std.specs.Prelude.{◌≡◌, ◌≤◌, drop};
 ghost use Rattle.line.specs.Format.{wrong, digit_of, read_digits, read_number, read_field, ended, read_line};
 ghost use Rattle.line.specs.Spots.{reading};
@@ -6,14 +8,14 @@ ghost use Rattle.line.specs.Spots.{reading};
 use locks::Message;
 
 // What a line says.
-#[derive(Drop)]
+#[derive(Clone, Copy)]
 pub enum Read {
     Bad,
     Good(Message),
 }
 
 // Where reading stands in a line: whether all is right so far, the last number, and the place after it.
-#[derive(Drop)]
+#[derive(Clone, Copy)]
 struct Spot {
     ok: bool,
     value: u64,

@@ -1,4 +1,6 @@
 // Cuts the input into lines, wherever its pieces end: gathers a line from piece after piece, and has it read.
+#![tactic(auto)]
+
 ghost use Rattle.std.specs.Prelude.{◌+◌, ◌≤◌, length};
 ghost use Rattle.line.specs.Format.{longest};
 ghost use Rattle.lines.specs.Buffers.{Keeping, Saying, Gathers};
@@ -18,7 +20,7 @@ pub fn keep(line: &mut [u8], n: usize, b: u8) -> usize
 }
 
 // Where gathering a line stands: how many bytes of the piece it took, how many of the line are kept, and whether the line's break was met.
-#[derive(Drop)]
+#[derive(Clone, Copy)]
 pub struct Scan {
     pub at: usize,
     pub kept: usize,

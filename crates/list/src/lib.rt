@@ -1,5 +1,7 @@
 // A list of requests in a lent slice of descriptions: each item is served as a single request, and its answer is stored in it. The functions
 // over the slice are thin, and their proofs walk them.
+#![tactic(auto)]
+
 ghost use Rattle.std.specs.Prelude.{◌≡◌, ◌+◌, ◌<◌, length};
 ghost use Rattle.common.specs.Refusals.{first_hit};
 ghost use Rattle.xdr.specs.Be.{put_be};

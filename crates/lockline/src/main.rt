@@ -1,4 +1,6 @@
 // The line program: reads lines from standard input, serves them on one table, and writes their answers to standard output.
+#![tactic(auto)]
+
 ghost use Rattle.session.specs.Buffers.{Ready};
 ghost use Rattle.lockline.specs.Program.{Pours};
 
@@ -13,7 +15,7 @@ const LINE_BYTES: usize = 130;
 const OUT_BYTES: usize = 45 + 171 * MAX_RECORDS;
 
 // How much of a line is kept, and whether there may be more input.
-#[derive(Drop)]
+#[derive(Clone, Copy)]
 struct Turn {
     kept: usize,
     more: bool,

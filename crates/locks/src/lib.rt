@@ -1,4 +1,6 @@
 // Messages and lists of requests: refusals, a message's own change, settling, events. The rules are in specs/.
+#![tactic(auto)]
+
 use table::{MAX_RECORDS, SHOWN_BYTES};
 
 // The kinds of an event.
@@ -19,7 +21,7 @@ pub const MAX_ITEMS: usize = 64;
 pub const MAX_LIST_EVENTS: usize = 2 * MAX_RECORDS;
 
 // A message of a client. "There are four messages, each with its own fields." A marked request's grant ends where it asked.
-#[derive(Drop)]
+#[derive(Clone, Copy)]
 pub enum Message {
     Request {
         client: u64,
@@ -45,7 +47,7 @@ pub enum Message {
 
 // A description of a list: what is asked, which stays, and its answer, which is stored in it.
 #[repr(C)]
-#[derive(Drop)]
+#[derive(Clone, Copy)]
 pub struct Item {
     pub client: u64,
     pub stripe: u64,

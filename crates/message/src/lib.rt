@@ -1,4 +1,6 @@
 // A message on bytes of which nothing is known: 1 and 2 are judged, and then it is served.
+#![tactic(auto)]
+
 ghost use Rattle.table.specs.Table.{max_records};
 ghost use Rattle.table.specs.Places.{count_of, Good};
 ghost use Rattle.locks.specs.Events.{Room};

@@ -1,4 +1,6 @@
 // Mode codes, state codes, and table II: when an asked mode conflicts with a record's mode and state.
+#![tactic(auto)]
+
 ghost use Rattle.std.specs.Prelude.{◌≡◌, ◌≤◌};
 ghost use Rattle.modes.specs.Codes.{mode_of, state_of, known_mode, known_state};
 ghost use Rattle.modes.specs.Conflict.{conflict};
@@ -21,7 +23,7 @@ pub const ASKED: u64 = 2;
 pub const CANCELING: u64 = 3;
 
 // The four modes, and Unknown for any other code.
-#[derive(Drop)]
+#[derive(Clone, Copy)]
 pub enum Mode {
     Pr,
     Nbw,
@@ -31,7 +33,7 @@ pub enum Mode {
 }
 
 // The four states, and Unknown for any other code.
-#[derive(Drop)]
+#[derive(Clone, Copy)]
 pub enum State {
     Waiting,
     Granted,

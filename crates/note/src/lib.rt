@@ -1,4 +1,6 @@
 // Note: the piece's entry goes to the log, and the map is raised by it.
+#![tactic(auto)]
+
 ghost use Rattle.std.specs.Prelude.{◌≡◌, true, ◌≤◌, length, drop};
 ghost use Rattle.common.specs.Counters.{width};
 ghost use Rattle.common.specs.Tests.{zeros};

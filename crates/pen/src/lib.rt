@@ -1,4 +1,6 @@
 // A map drawn from left to right into a scratch buffer: stretches that touch at one age are joined, and age 0 is no run.
+#![tactic(auto)]
+
 ghost use Rattle.std.specs.Prelude.{◌≡◌, ◌+◌, ◌≤◌, length, take, drop};
 ghost use Rattle.common.specs.Counters.{width};
 ghost use Rattle.xdr.specs.Be.{be, put_be};
@@ -10,7 +12,7 @@ ghost use Rattle.pen.specs.Drawing.{fresh, Fine, with_runs, Flushed, Went, one};
 use runs::{Age, Run};
 
 // k runs are stored, or counted where they do not fit; from cur up to before x the age is tip.
-#[derive(Drop)]
+#[derive(Clone, Copy)]
 pub struct Pen {
     pub k: usize,
     pub cur: u64,

@@ -1,4 +1,6 @@
 // Draws the map of a log: goes over its entries in order of first byte, with a list of those begun, in order of age.
+#![tactic(auto)]
+
 ghost use Rattle.std.specs.Prelude.{◌≡◌, true, ◌≤◌, ◌<◌, length};
 ghost use Rattle.common.specs.Counters.{width};
 ghost use Rattle.common.specs.Ranges.{eof};
@@ -14,14 +16,14 @@ use pen::Pen;
 use runs::Age;
 
 // The first `taken` entries of the order have begun; `count` of them stand in the list.
-#[derive(Drop)]
+#[derive(Clone, Copy)]
 struct Walk {
     taken: usize,
     count: usize,
 }
 
 // One age up to before `end`.
-#[derive(Drop)]
+#[derive(Clone, Copy)]
 struct Stretch {
     age: Age,
     end: u64,

@@ -1,4 +1,6 @@
 // Restart: the map is filled from the log.
+#![tactic(auto)]
+
 ghost use Rattle.std.specs.Prelude.{◌≡◌};
 ghost use Rattle.restart.specs.Restart.{Restarts};
 

@@ -1,4 +1,6 @@
 // Runs in bytes: reads and stores one, and tests maps and logs.
+#![tactic(auto)]
+
 ghost use Rattle.std.specs.Prelude.{◌≡◌, true, ◌+◌, ◌≤◌, ◌<◌, ◌^◌, length};
 ghost use Rattle.common.specs.Counters.{width};
 ghost use Rattle.xdr.specs.Be.{be, put_be};

@@ -1,4 +1,6 @@
 // Runs and their ages: what the map and the log say of each byte.
+#![tactic(auto)]
+
 ghost use Rattle.std.specs.Prelude.{◌≡◌, max, eqb, ltb};
 ghost use Rattle.runs.specs.Ages.{value_of, age, Exact};
 
@@ -8,18 +10,18 @@ use common::Number;
 pub const HIGHEST_PASS: u64 = 4294967295;
 
 // A pass tells apart what a client writes to one byte under one lock. It counts passes from 1.
-#[derive(Drop)]
+#[derive(Clone, Copy)]
 pub struct Pass(pub u64);
 
 // By what runs and pieces are judged: the number of their grant first, and the pass second.
-#[derive(Drop)]
+#[derive(Clone, Copy)]
 pub struct Age {
     pub number: Number,
     pub pass: Pass,
 }
 
 // The bytes first to last, both included, at one age: a run of the map, an entry of the log, the place of a piece.
-#[derive(Drop)]
+#[derive(Clone, Copy)]
 pub struct Run {
     pub first: u64,
     pub last: u64,

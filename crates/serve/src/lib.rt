@@ -1,4 +1,6 @@
 // A call on the bytes of a sound table: its refusals, its own change, and the settling. The four messages are such calls.
+#![tactic(auto)]
+
 ghost use Rattle.std.specs.Prelude.{◌≡◌, cond, ◌+◌, length};
 ghost use Rattle.common.specs.Counters.{width};
 ghost use Rattle.table.specs.Table.{max_records};
@@ -18,7 +20,7 @@ use table::{Lock, MARKED, UNMARKED};
 
 // What a call answers: its refusal or 0, the handle that it made or named, and how many events it wrote.
 #[repr(C)]
-#[derive(Drop)]
+#[derive(Clone, Copy)]
 pub struct Answer {
     pub refusal: u64,
     pub handle: u64,

@@ -1,4 +1,6 @@
 // A session of lines on one table: what the lines that end in a piece of the input say is served, and the answers are put down.
+#![tactic(auto)]
+
 ghost use Rattle.std.specs.Prelude.{T};
 ghost use Rattle.locks.specs.Session.{single};
 ghost use Rattle.line.specs.Format.{Single};
@@ -50,7 +52,7 @@ fn answer(table: &mut [u8], events: &mut [u8], out: &mut [u8], r: Read) -> usize
 }
 
 // What feeding took of a piece, how much of a line is kept, and how many bytes are to be written.
-#[derive(Drop)]
+#[derive(Clone, Copy)]
 pub struct Fed {
     pub at: usize,
     pub kept: usize,

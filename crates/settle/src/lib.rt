@@ -1,4 +1,6 @@
 // Settling the table, in its bytes: the turns, then the revocations. Events are written behind those that stand there already.
+#![tactic(auto)]
+
 ghost use Rattle.std.specs.Prelude.{◌≡◌, [], ◌∷◌, ◌+◌, ◌^◌, ◌<◌, length};
 ghost use Rattle.common.specs.Counters.{width};
 ghost use Rattle.table.specs.Table.{waits, stripe_count};

@@ -1,4 +1,6 @@
 // Says whether a lock table's bytes are sound, by every rule of document 01.
+#![tactic(auto)]
+
 ghost use Rattle.std.specs.Prelude.{◌≡◌, cond, ◌≤◌, ◌<◌, length};
 ghost use Rattle.common.specs.Counters.{width};
 ghost use Rattle.common.specs.Tests.{all, pairs};

@@ -1,4 +1,6 @@
 // Storing a piece where the map has its age.
+#![tactic(auto)]
+
 ghost use Rattle.std.specs.Prelude.{◌≡◌, true, [], ◌∷◌, ◌-◌, ◌<◌, min, length};
 ghost use Rattle.common.specs.Counters.{width};
 ghost use Rattle.runs.specs.Ages.{value_of, Exact};

@@ -1,4 +1,6 @@
 // The lock table of one server: its records, when it is sound, and its bytes.
+#![tactic(auto)]
+
 ghost use Rattle.std.specs.Prelude.{◌≡◌, [], ◌∷◌, ◌++◌, ◌+◌, ◌-◌, ◌^◌, ◌≤◌, ◌<◌, length};
 ghost use Rattle.common.specs.Counters.{width};
 ghost use Rattle.xdr.specs.Layout.{fields, put_fields, size};
@@ -58,7 +60,7 @@ const RECORDS: usize = COUNT + 4;
 pub const TABLE_BYTES: usize = RECORDS + RECORD_BYTES * MAX_RECORDS;
 
 // A lock record: waiting in state 0, held in states 1 to 3. Its mark is 1 while a marked request waits, and else 0.
-#[derive(Drop)]
+#[derive(Clone, Copy)]
 pub struct Lock {
     pub handle: Handle,
     pub client: u64,

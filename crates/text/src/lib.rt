@@ -1,4 +1,6 @@
 // Prints answers: the lines of a refusal and a handle, and of the events of a call.
+#![tactic(auto)]
+
 ghost use Rattle.std.specs.Prelude.{◌≡◌, [], ◌∷◌, ◌+◌, ◌≤◌, ◌<◌, length};
 ghost use Rattle.locks.specs.Events.{Room};
 ghost use Rattle.text.specs.Text.{decimal, fields_text, line_break, bad_text, answer_text, kind_letter, event_text, outcome_text};

@@ -1,4 +1,6 @@
 // Write: the piece goes into the middle of the lent image.
+#![tactic(auto)]
+
 ghost use Rattle.std.specs.Prelude.{◌≡◌};
 ghost use Rattle.stripe.specs.Piece.{piece};
 ghost use Rattle.write.specs.Write.{write_answer, Writes};
