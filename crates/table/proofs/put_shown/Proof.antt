@@ -15,7 +15,7 @@ returns c =
     let c3 = c4.before.before.before.before in
     let c2 = c3.before.before.before.before in
     let c1 = c2.before.before.before.before in
-    rw (c8.put-u642.ensures, c7.put-u64.ensures, c6.put-counter2.ensures, c5.put-u324.ensures, c4.put-u323.ensures, c3.put-u322.ensures, c2.put-u32.ensures, c1.put-counter.ensures)
+    rw (c8.put_u64-2.ensures, c7.put_u64.ensures, c6.put_counter-2.ensures, c5.put_u32-4.ensures, c4.put_u32-3.ensures, c3.put_u32-2.ensures, c2.put_u32.ensures, c1.put_counter.ensures)
 
 pub put_shown_spec : {M : Type 1} → statement M
 put_shown_spec =
