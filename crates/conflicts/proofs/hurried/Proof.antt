@@ -10,10 +10,10 @@ use Rattle.table.proofs.Scan.{scan-hit, scan-miss, scan-end}
 use Rattle.conflicts.proofs.hurried.Statement.{statement}
 use Rattle.conflicts.proofs.hurried.Tie as tie
 
-abbrev invariant-loop : tie.invariant-loop
+abbrev invariant-loop : tie.invariant-loop-j
 invariant-loop t n i j₀ j = Past (hurries (lock_at t i)) n (locks_of width t) j
 
-abbrev decreases-loop : tie.decreases-loop
+abbrev decreases-loop : tie.decreases-loop-j
 decreases-loop t n i j₀ j = n - j
 
 pub hurried_spec : {M : Type 1} → statement M

@@ -5,13 +5,13 @@ use borrow.Author.Rules.{rules}
 use Rattle.conflicts.proofs.meets.Statement.{statement}
 use Rattle.conflicts.proofs.meets.Tie as tie
 
-returns : tie.Need-returns-2
+returns : tie.Need-returns
 returns c =
     let m = c.before.before.before.before.before.before in
     let q = m.before.before in
     let a = q.before.before.before.args in
-    close (lock_at a.t.now a.i) (lock_at a.t.now a.j) _ _ q.before.near.ensures _ _ _ _ _ _ c.before.before.before.before.before.handle-at.ensures c.before.before.before.before.handle-at2.ensures
-    m.before.known-mode-at.ensures.0 m.known-mode-at2.ensures.0 c.before.state-at.ensures c.conflict.ensures q.if1.false
+    close (lock_at a.t.now a.i) (lock_at a.t.now a.j) _ _ q.before.near.ensures _ _ _ _ _ _ c.before.before.before.before.before.handle_at.ensures c.before.before.before.before.handle_at-2.ensures
+    m.before.known_mode_at-asked.ensures.0 m.known_mode_at-held.ensures.0 c.before.state_at.ensures c.conflict.ensures q.if-not-near.false
 
 pub meets_spec : {M : Type 1} → statement M
 meets_spec = tie.close (tie.spec (λ c κs. search rules) (λ c. search far) (λ c κs. search rules) (λ c κs. search rules) (λ c κs. search rules) (λ c κs. search rules) (λ c κs. search rules) (λ c κs. search rules) returns)

@@ -4,7 +4,7 @@ use Rattle.conflicts.proofs.near.Statement.{statement}
 use Rattle.conflicts.proofs.near.Tie as tie
 
 returns : tie.Need-returns
-returns c = rw (c.before.before.before.before.stripe-at.ensures, c.before.before.before.stripe-at2.ensures, c.before.before.first-at.ensures, c.before.last-at.ensures, c.first-at2.ensures)
+returns c = rw (c.before.before.before.before.stripe_at.ensures, c.before.before.before.stripe_at-2.ensures, c.before.before.first_at.ensures, c.before.last_at.ensures, c.first_at-2.ensures)
 
 pub near_spec : {M : Type 1} → statement M
 near_spec = tie.close (tie.spec (λ c κs. search rules) (λ c κs. search rules) (λ c κs. search rules) (λ c κs. search rules) (λ c κs. search rules) returns)

@@ -11,10 +11,10 @@ use Rattle.conflicts.proofs.Tests.{none-press}
 use Rattle.conflicts.proofs.pressed.Statement.{statement}
 use Rattle.conflicts.proofs.pressed.Tie as tie
 
-abbrev invariant-loop : tie.invariant-loop
+abbrev invariant-loop : tie.invariant-loop-j
 invariant-loop t n f i j₀ j = Past (presses (lock_at t i)) n (locks_of width t) j
 
-abbrev decreases-loop : tie.decreases-loop
+abbrev decreases-loop : tie.decreases-loop-j
 decreases-loop t n f i j₀ j = n - j
 
 pub pressed_spec : {M : Type 1} → statement M

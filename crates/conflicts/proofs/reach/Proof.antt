@@ -7,10 +7,10 @@ use Rattle.conflicts.proofs.Widths.{Cutting, cut_on, cut-end}
 use Rattle.conflicts.proofs.reach.Statement.{statement}
 use Rattle.conflicts.proofs.reach.Tie as tie
 
-abbrev invariant-loop : tie.invariant-loop
+abbrev invariant-loop : tie.invariant-loop-j
 invariant-loop t n i m₀ j₀ m j = Cutting (lock_at t i) t n m j
 
-abbrev decreases-loop : tie.decreases-loop
+abbrev decreases-loop : tie.decreases-loop-j
 decreases-loop t n i m₀ j₀ m j = n - j
 
 pub reach_spec : {M : Type 1} → statement M

@@ -10,10 +10,10 @@ use Rattle.judge.specs.Posts.{has}
 use Rattle.judge.proofs.find.Statement.{statement}
 use Rattle.judge.proofs.find.Tie as tie
 
-abbrev invariant-loop : tie.invariant-loop
+abbrev invariant-loop : tie.invariant-loop-i
 invariant-loop t n h i₀ i = Past (has h.0) n (locks_of width t) i
 
-abbrev decreases-loop : tie.decreases-loop
+abbrev decreases-loop : tie.decreases-loop-i
 decreases-loop t n h i₀ i = n - i
 
 pub find_spec : {M : Type 1} → statement M

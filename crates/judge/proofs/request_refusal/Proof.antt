@@ -6,36 +6,36 @@ use borrow.Author.Rules.{rules}
 use Rattle.judge.proofs.request_refusal.Statement.{statement}
 use Rattle.judge.proofs.request_refusal.Tie as tie
 
-r3 : tie.Need-returns
+r3 : tie.Need-returns-then-client-gt-MAX_CLIENT
 r3 c = search (row-hit, lt-ltb)
 
-r4 : tie.Need-returns-2
+r4 : tie.Need-returns-then-stripe-gt-MAX_STRIPE
 r4 c = search (row-hit, row_on, lt-ltb, le-ltb)
 
-r5 : tie.Need-returns-3
+r5 : tie.Need-returns-then-not-known_mode
 r5 c =
     let a = c.before.before.before.before.before.args in
-    hits-5 a.t.now a.client a.stripe a.mode a.first a.last c.before.before.before.if1.false c.before.before.if2.false (told _ _ _ c.before.known-mode.ensures c.if3.true)
+    hits-5 a.t.now a.client a.stripe a.mode a.first a.last c.before.before.before.if-client-gt-MAX_CLIENT.false c.before.before.if-stripe-gt-MAX_STRIPE.false (told _ _ _ c.before.known_mode.ensures c.if-not-known_mode.true)
 
-r6 : tie.Need-returns-4
+r6 : tie.Need-returns-then-not-first-last
 r6 c =
     let a = c.before.before.before.before.before.before.args in
-    hits-6 a.t.now a.client a.stripe a.mode a.first a.last c.before.before.before.before.if1.false c.before.before.before.if2.false (told _ _ _ c.before.before.known-mode.ensures c.before.if3.false) c.if4.true
+    hits-6 a.t.now a.client a.stripe a.mode a.first a.last c.before.before.before.before.if-client-gt-MAX_CLIENT.false c.before.before.before.if-stripe-gt-MAX_STRIPE.false (told _ _ _ c.before.before.known_mode.ensures c.before.if-not-known_mode.false) c.if-not-first-last.true
 
-r7 : tie.Need-returns-5
+r7 : tie.Need-returns-then-issued-ge-HIGHEST
 r7 c =
     let a = c.before.before.before.before.before.before.before.before.args in
-    hits-7 a.t.now a.client a.stripe a.mode a.first a.last c.before.before.before.before.before.before.if1.false c.before.before.before.before.before.if2.false (told _ _ _ c.before.before.before.before.known-mode.ensures c.before.before.before.if3.false) c.before.before.if4.false (all-issued _ _ c.before.issued.ensures.0 c.if5.true)
+    hits-7 a.t.now a.client a.stripe a.mode a.first a.last c.before.before.before.before.before.before.if-client-gt-MAX_CLIENT.false c.before.before.before.before.before.if-stripe-gt-MAX_STRIPE.false (told _ _ _ c.before.before.before.before.known_mode.ensures c.before.before.before.if-not-known_mode.false) c.before.before.if-not-first-last.false (all-issued _ _ c.before.issued.ensures.0 c.if-issued-ge-HIGHEST.true)
 
-r8 : tie.Need-returns-6
+r8 : tie.Need-returns-then-n-ge-MAX_RECORDS
 r8 c =
     let a = c.before.before.before.before.before.before.before.before.before.args in
-    hits-8 a.t.now a.client a.stripe a.mode a.first a.last c.before.before.before.before.before.before.before.if1.false c.before.before.before.before.before.before.if2.false (told _ _ _ c.before.before.before.before.before.known-mode.ensures c.before.before.before.before.if3.false) c.before.before.before.if4.false (not-all-issued _ _ c.before.before.issued.ensures.0 c.before.if5.false) (all-used _ _ c.before.before.before.before.before.before.before.before.before.requires c.if6.true)
+    hits-8 a.t.now a.client a.stripe a.mode a.first a.last c.before.before.before.before.before.before.before.if-client-gt-MAX_CLIENT.false c.before.before.before.before.before.before.if-stripe-gt-MAX_STRIPE.false (told _ _ _ c.before.before.before.before.before.known_mode.ensures c.before.before.before.before.if-not-known_mode.false) c.before.before.before.if-not-first-last.false (not-all-issued _ _ c.before.before.issued.ensures.0 c.before.if-issued-ge-HIGHEST.false) (all-used _ _ c.before.before.before.before.before.before.before.before.before.requires c.if-n-ge-MAX_RECORDS.true)
 
-r0 : tie.Need-returns-7
+r0 : tie.Need-returns
 r0 c =
     let a = c.before.before.before.before.before.before.before.before.before.args in
-    hits-none a.t.now a.client a.stripe a.mode a.first a.last c.before.before.before.before.before.before.before.if1.false c.before.before.before.before.before.before.if2.false (told _ _ _ c.before.before.before.before.before.known-mode.ensures c.before.before.before.before.if3.false) c.before.before.before.if4.false (not-all-issued _ _ c.before.before.issued.ensures.0 c.before.if5.false) (not-all-used _ _ c.before.before.before.before.before.before.before.before.before.requires c.if6.false)
+    hits-none a.t.now a.client a.stripe a.mode a.first a.last c.before.before.before.before.before.before.before.if-client-gt-MAX_CLIENT.false c.before.before.before.before.before.before.if-stripe-gt-MAX_STRIPE.false (told _ _ _ c.before.before.before.before.before.known_mode.ensures c.before.before.before.before.if-not-known_mode.false) c.before.before.before.if-not-first-last.false (not-all-issued _ _ c.before.before.issued.ensures.0 c.before.if-issued-ge-HIGHEST.false) (not-all-used _ _ c.before.before.before.before.before.before.before.before.before.requires c.if-n-ge-MAX_RECORDS.false)
 
 pub request_refusal_spec : {M : Type 1} → statement M
 request_refusal_spec = tie.close (tie.spec r3 r4 (search rules) r5 r6 (λ c κs. search rules) r7 r8 r0)

@@ -15,7 +15,7 @@ returns-2 : tie.Need-returns-2
 returns-2 c = restart-13 _ _ c.before.before.if1.false _ c.before.log-sound.ensures c.if2.true
 
 rebuilt-requires : tie.Need-rebuilt-requires
-rebuilt-requires c κs = (length-replicate {A = ℕ} (map_size width) 0, sym c.before.before.log-sound.ensures ∙ not-false _ c.before.if2.false)
+rebuilt-requires c κs = (length-replicate {A = ℕ} (map_size width) 0, sym c.before.before.log-sound.ensures ∙ c.before.if2.false)
 
 returns-3 : tie.Need-returns-3
 returns-3 c =

@@ -27,7 +27,7 @@ returns-3 c =
     rw (eq-eqb _ _ c.before.before.before.before.if1.false, runs-length s, le-leb (be 4 s 0) max_runs (omega arith), sym c.before.all_valid.ensures ∙ not-true c.before.all_valid.result c.if3.true)
 
 all-apart-requires : tie.Need-all-apart-requires
-all-apart-requires c κs = (search rules, rw (← c.before.all_valid.ensures) (not-false _ c.if3.false))
+all-apart-requires c κs = (search rules, rw (← c.before.all_valid.ensures) (c.if3.false))
 
 returns-4 : tie.Need-returns-4
 unfolding sound_map_bytes sound_map

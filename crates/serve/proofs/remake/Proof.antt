@@ -19,7 +19,7 @@ eleven : tie.Need-returns-2
 eleven c =
     let s = c.before.before.before.before.before.before.before.before.before.before.before in
     naming-11 _ _ _ _ s.requires.0 _ c.before.before.before.before.before.before.before.named.ensures c.before.before.before.before.before.if1.false _ c.before.before.before.lock-at.ensures.0 s.args.to _ _
-    (sym c.before.before.ready.ensures ∙ not-true _ c.before.if2.true) c.refused2.ensures
+    (sym c.before.before.ready.ensures ∙ c.before.if2.true) c.refused2.ensures
 
 put-lock-requires : tie.Need-put-lock-requires
 put-lock-requires c κs =
@@ -30,7 +30,7 @@ finish-requires : tie.Need-finish-requires
 finish-requires c κs =
     let s = c.before.before.before.before.before.before.before.before.before.before.before.before.before.before.before.before.before in (
       made-good _ _ _ _ s.requires.0 _ c.before.before.before.before.before.before.before.before.before.before.before.before.before.named.ensures c.before.before.before.before.before.before.before.before.before.before.before.if1.false _ c.before.before.before.before.before.before.before.before.before.lock-at.ensures.0 s.args.to
-          (sym c.before.before.before.before.before.before.before.before.ready.ensures ∙ not-false _ c.before.before.before.before.before.before.before.if2.false) _ c.before.before.before.before.before.becoming.ensures _ c.before.before.before.before.put-lock.ensures,
+          (sym c.before.before.before.before.before.before.before.before.ready.ensures ∙ c.before.before.before.before.before.before.before.if2.false) _ c.before.before.before.before.before.becoming.ensures _ c.before.before.before.before.put-lock.ensures,
       s.requires.1,
     )
 
@@ -38,7 +38,7 @@ returns : tie.Need-returns-3
 returns c =
     let s = c.before.before.before.before.before.before.before.before.before.before.before.before.before.before.before.before.before.before.before.before.before.before in
     made-served _ _ _ _ s.requires.0 _ c.before.before.before.before.before.before.before.before.before.before.before.before.before.before.before.before.before.before.named.ensures c.before.before.before.before.before.before.before.before.before.before.before.before.before.before.before.before.if1.false _ c.before.before.before.before.before.before.before.before.before.before.before.before.before.before.lock-at.ensures.0 s.args.to
-    (sym c.before.before.before.before.before.before.before.before.before.before.before.before.before.ready.ensures ∙ not-false _ c.before.before.before.before.before.before.before.before.before.before.before.before.if2.false) _ c.before.before.before.before.before.before.before.before.before.before.becoming.ensures _ c.before.before.before.before.before.before.before.before.before.put-lock.ensures _ _ _ _ c.before.before.before.before.finish.ensures
+    (sym c.before.before.before.before.before.before.before.before.before.before.before.before.before.ready.ensures ∙ c.before.before.before.before.before.before.before.before.before.before.before.before.if2.false) _ c.before.before.before.before.before.before.before.before.before.before.becoming.ensures _ c.before.before.before.before.before.before.before.before.before.put-lock.ensures _ _ _ _ c.before.before.before.before.finish.ensures
 
 pub remake_spec : {M : Type 1} → statement M
 remake_spec =

@@ -11,7 +11,7 @@ answered c = c.before.before.before.before.before.before
 part : tie.Need-returns
 part c =
     let g = c.before.before.before.before.gather in
-    fed-part c.before.before.before.before.before.before.before.before.before.before.before.requires g.ensures g.auto.1.0 (not-true _ c.if1.true)
+    fed-part c.before.before.before.before.before.before.before.before.before.before.before.requires g.ensures g.auto.1.0 (c.if1.true)
 
 whole : tie.Need-returns-2
 whole c =

@@ -16,72 +16,72 @@ use Rattle.sound.proofs.Counts.{has-count, none_yet, one_more}
 use Rattle.sound.proofs.each_sound.Statement.{statement}
 use Rattle.sound.proofs.each_sound.Tie as tie
 
-abbrev invariant-loop : tie.invariant-loop
+abbrev invariant-loop : tie.invariant-loop-i
 invariant-loop t n issued waiters₀ before₀ i₀ waiters before i =
     (i ≤ n)
     × ((all (valid issued (table_of width t).lasts) (drop i (locks_of width t)) && climbs before.0 (drop i (locks_of width t))) ≡ (all (valid issued (table_of width t).lasts) (locks_of width t) && climbs 0 (locks_of width t)))
     × Tallied i waiters (locks_of width t)
 
-abbrev decreases-loop : tie.decreases-loop
+abbrev decreases-loop : tie.decreases-loop-i
 decreases-loop t n issued waiters₀ before₀ i₀ waiters before i = n - i
 
-loop-holds : tie.Need-loop-init invariant-loop decreases-loop
+loop-holds : tie.Need-loop-i-init invariant-loop decreases-loop
 loop-holds c = (search rules, refl, none_yet _)
 
-returns : tie.Need-returns invariant-loop decreases-loop
+returns : tie.Need-returns-then-l-before invariant-loop decreases-loop
 returns c =
     let l = c.before.before.before.before.before in
     let s = l.before.before in
-    let a = c.before.before.before.lock-at in
-    each-low _ _ _ _ a.result (records-from s.args.n l.loop.i s.args.t.now s.requires a.result (omega arith) a.ensures.0) l.loop.invariant.1 c.if1.true
+    let a = c.before.before.before.lock_at-l in
+    each-low _ _ _ _ a.result (records-from s.args.n l.loop-i.i s.args.t.now s.requires a.result (omega arith) a.ensures.0) l.loop-i.invariant.1 c.if-l-before.true
 
-returns-2 : tie.Need-returns-2 invariant-loop decreases-loop
+returns-2 : tie.Need-returns-then-not-is_valid invariant-loop decreases-loop
 returns-2 c =
     let l = c.before.before.before.before.before.before.before in
     let s = l.before.before in
-    let a = c.before.before.before.before.before.lock-at in
-    each-bad _ _ _ _ a.result (records-from s.args.n l.loop.i s.args.t.now s.requires a.result (omega arith) a.ensures.0) l.loop.invariant.1
-    (sym c.before.is-valid.ensures ∙ not-true _ c.if2.true)
+    let a = c.before.before.before.before.before.lock_at-l in
+    each-bad _ _ _ _ a.result (records-from s.args.n l.loop-i.i s.args.t.now s.requires a.result (omega arith) a.ensures.0) l.loop-i.invariant.1
+    (sym c.before.is_valid.ensures ∙ c.if-not-is_valid.true)
 
-array-read-waiters : tie.Need-array-read-waiters invariant-loop decreases-loop
-array-read-waiters c = has-count _ _ _ (sym c.before.before.is-valid.ensures ∙ not-false _ c.before.if2.false)
+array-read-waiters : tie.Need-bounds-waiters-s invariant-loop decreases-loop
+array-read-waiters c = has-count _ _ _ (sym c.before.before.is_valid.ensures ∙ c.before.if-not-is_valid.false)
 
-add-waiters : tie.Need-overflow-add-waiters invariant-loop decreases-loop
+add-waiters : tie.Need-overflow_add-waiters invariant-loop decreases-loop
 add-waiters c =
     let l = c.before.before.before.before.before.before.before.before.before.before.before in
     let m = l.before.before.requires.most in
-    let f = l.loop.invariant.2.few c.before.before.before.before.before.before.before.before.before.lock-at.result.stripe (has-count _ _ _ (sym c.before.before.before.before.before.is-valid.ensures ∙ not-false _ c.before.before.before.before.if2.false)) in
+    let f = l.loop-i.invariant.2.few c.before.before.before.before.before.before.before.before.before.lock_at-l.result.stripe (has-count _ _ _ (sym c.before.before.before.before.before.is_valid.ensures ∙ c.before.before.before.before.if-not-is_valid.false)) in
     omega arith
 
-array-write-waiters : tie.Need-array-write-waiters invariant-loop decreases-loop
-array-write-waiters c = has-count _ _ _ (sym c.before.before.before.before.before.is-valid.ensures ∙ not-false _ c.before.before.before.before.if2.false)
+array-write-waiters : tie.Need-bounds-waiters-s-in-loop-i invariant-loop decreases-loop
+array-write-waiters c = has-count _ _ _ (sym c.before.before.before.before.before.is_valid.ensures ∙ c.before.before.before.before.if-not-is_valid.false)
 
-loop-again : tie.Need-loop-preserved invariant-loop decreases-loop
+loop-again : tie.Need-loop-i-preserved invariant-loop decreases-loop
 loop-again c =
     let b = c.before.before.before.before.before.before.before.before.before.before in
     let l = b.before in
     let s = l.before.before in
-    let h = b.loop-test.true in
-    let a = c.before.before.before.before.before.before.before.before.before.lock-at in
-    let f = records-from s.args.n l.loop.i s.args.t.now s.requires a.result (omega arith) a.ensures.0 in
-    let v = sym c.before.before.before.before.before.is-valid.ensures ∙ not-false _ c.before.before.before.before.if2.false in (
+    let h = b.loop-i-test.true in
+    let a = c.before.before.before.before.before.before.before.before.before.lock_at-l in
+    let f = records-from s.args.n l.loop-i.i s.args.t.now s.requires a.result (omega arith) a.ensures.0 in
+    let v = sym c.before.before.before.before.before.is_valid.ensures ∙ c.before.before.before.before.if-not-is_valid.false in (
       omega arith,
-      each_more _ _ true _ a.result f l.loop.invariant.1 c.before.before.before.before.before.before.if1.false v,
-      one_more _ _ a.result _ l.loop.i l.loop.invariant.2 f (has-count _ _ _ v) c.one.ensures.0 c.one.ensures.1,
+      each_more _ _ true _ a.result f l.loop-i.invariant.1 c.before.before.before.before.before.before.if-l-before.false v,
+      one_more _ _ a.result _ l.loop-i.i l.loop-i.invariant.2 f (has-count _ _ _ v) c.one.ensures.0 c.one.ensures.1,
     )
 
 rooms-requires : tie.Need-rooms-requires invariant-loop decreases-loop
 rooms-requires c κs =
     let l = c.before.before in
     let s = l.before.before in
-    let e : l.loop.i ≡ s.args.n = omega arith in
-    (s.requires, subst (λ (k : ℕ). Tallied k l.loop.waiters (locks_of width s.args.t.now)) e l.loop.invariant.2)
+    let e : l.loop-i.i ≡ s.args.n = omega arith in
+    (s.requires, subst (λ (k : ℕ). Tallied k l.loop-i.waiters (locks_of width s.args.t.now)) e l.loop-i.invariant.2)
 
-returns-3 : tie.Need-returns-3 invariant-loop decreases-loop
+returns-3 : tie.Need-returns invariant-loop decreases-loop
 returns-3 c =
     let l = c.before.before.before in
     let s = l.before.before in
-    each-done _ _ _ _ _ c.rooms.ensures (records-end s.args.n l.loop.i s.args.t.now s.requires (omega arith)) l.loop.invariant.1
+    each-done _ _ _ _ _ c.rooms.ensures (records-end s.args.n l.loop-i.i s.args.t.now s.requires (omega arith)) l.loop-i.invariant.1
 
 pub each_sound_spec : {M : Type 1} → statement M
 each_sound_spec =

@@ -5,41 +5,41 @@ use borrow.Author.Rules.{rules}
 use Rattle.sound.proofs.friends_at.Statement.{statement}
 use Rattle.sound.proofs.friends_at.Tie as tie
 
-returns : tie.Need-returns
-returns c = other-stripe _ _ _ c.before.before.stripe-at.ensures c.if1.true
+returns : tie.Need-returns-then-stripe_at-a
+returns c = other-stripe _ _ _ c.before.before.stripe_at.ensures c.if-stripe_at-a.true
 
-differs-at-requires : tie.Need-differs-at-requires
+differs-at-requires : tie.Need-differs_at-requires
 differs-at-requires c κs =
-    (c.before.before.before.before.before.before.before.requires, sym c.before.before.before.before.before.stripe-at.ensures ∙ c.before.before.before.if1.false)
+    (c.before.before.before.before.before.before.before.requires, sym c.before.before.before.before.before.stripe_at.ensures ∙ c.before.before.before.if-stripe_at-a.false)
 
-returns-2 : tie.Need-returns-2
-returns-2 c = c.differs_at.ensures ∙ starts-after _ _ _ c.before.before.before.first-at.ensures c.before.if2.true
+returns-2 : tie.Need-returns-then-a-first_at
+returns-2 c = c.differs_at.ensures ∙ starts-after _ _ _ c.before.before.before.first_at.ensures c.before.if-a-first_at.true
 
-differs-at-requires-2 : tie.Need-differs-at-requires-2
+differs-at-requires-2 : tie.Need-differs_at-requires-then-last_at-a
 differs-at-requires-2 c κs =
-    (c.before.before.before.before.before.before.before.before.before.before.requires, sym c.before.before.before.before.before.before.before.before.stripe-at.ensures ∙ c.before.before.before.before.before.before.if1.false)
+    (c.before.before.before.before.before.before.before.before.before.before.requires, sym c.before.before.before.before.before.before.before.before.stripe_at.ensures ∙ c.before.before.before.before.before.before.if-stripe_at-a.false)
 
-returns-3 : tie.Need-returns-3
-returns-3 c = c.differs-at2.ensures ∙ ends-before _ _ _ c.before.before.before.last-at.ensures c.before.if3.true
+returns-3 : tie.Need-returns-then-last_at-a
+returns-3 c = c.differs_at-then-last_at-a.ensures ∙ ends-before _ _ _ c.before.before.before.last_at.ensures c.before.if-last_at-a.true
 
-returns-4 : tie.Need-returns-4
-returns-4 c = two-readers _ _ _ c.before.before.mode-at.ensures c.if4.true
+returns-4 : tie.Need-returns-then-a-mode
+returns-4 c = two-readers _ _ _ c.before.before.mode_at-mode.ensures c.if-a-mode.true
 
-returns-5 : tie.Need-returns-5
-returns-5 c = second-waits _ _ _ c.before.state-at.ensures c.if5.true
+returns-5 : tie.Need-returns-then-state-eq-WAITING
+returns-5 c = second-waits _ _ _ c.before.state_at-state.ensures c.if-state-eq-WAITING.true
 
-returns-6 : tie.Need-returns-6
+returns-6 : tie.Need-returns-then-number-a
 returns-6 c =
     let c5 = c.before.before.before.before in
     let c4 = c5.before.before in
     let c3 = c4.before.before.before in
     let c2 = c3.before.before.before in
     let c1 = c2.before.before.before in
-    one_number _ _ _ c1.before.before.stripe-at.ensures c1.if1.false c1.before.before.before.before.requires.held _ _ _ _ _
-    c4.before.before.mode-at.ensures c.before.before.before.number_at.ensures.0 c5.before.state-at.ensures c2.before.before.first-at.ensures c3.before.before.last-at.ensures
-    c2.if2.false c3.if3.false c4.if4.false c5.if5.false c.if6.true
+    one_number _ _ _ c1.before.before.stripe_at.ensures c1.if-stripe_at-a.false c1.before.before.before.before.requires.held _ _ _ _ _
+    c4.before.before.mode_at-mode.ensures c.before.before.before.number_at-number.ensures.0 c5.before.state_at-state.ensures c2.before.before.first_at.ensures c3.before.before.last_at.ensures
+    c2.if-a-first_at.false c3.if-last_at-a.false c4.if-a-mode.false c5.if-state-eq-WAITING.false c.if-number-a.true
 
-returns-7 : tie.Need-returns-7
+returns-7 : tie.Need-returns
 returns-7 c =
     let c6 = c.before in
     let c5 = c6.before.before.before.before in
@@ -47,10 +47,10 @@ returns-7 c =
     let c3 = c4.before.before.before in
     let c2 = c3.before.before.before in
     let c1 = c2.before.before.before in
-    c.smaller-yields.ensures
-    ∙ one_of_two _ _ _ c1.before.before.stripe-at.ensures c1.if1.false c1.before.before.before.before.requires.held _ _ _ _ _
-    c4.before.before.mode-at.ensures c6.before.before.before.number_at.ensures.0 c5.before.state-at.ensures c2.before.before.first-at.ensures c3.before.before.last-at.ensures
-    c2.if2.false c3.if3.false c4.if4.false c5.if5.false c6.if6.false
+    c.smaller_yields.ensures
+    ∙ one_of_two _ _ _ c1.before.before.stripe_at.ensures c1.if-stripe_at-a.false c1.before.before.before.before.requires.held _ _ _ _ _
+    c4.before.before.mode_at-mode.ensures c6.before.before.before.number_at-number.ensures.0 c5.before.state_at-state.ensures c2.before.before.first_at.ensures c3.before.before.last_at.ensures
+    c2.if-a-first_at.false c3.if-last_at-a.false c4.if-a-mode.false c5.if-state-eq-WAITING.false c6.if-number-a.false
 
 pub friends_at_spec : {M : Type 1} → statement M
 friends_at_spec =

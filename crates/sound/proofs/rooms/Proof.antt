@@ -14,28 +14,28 @@ use Rattle.sound.proofs.Counts.{tallied}
 use Rattle.sound.proofs.rooms.Statement.{statement}
 use Rattle.sound.proofs.rooms.Tie as tie
 
-abbrev invariant-loop : tie.invariant-loop
+abbrev invariant-loop : tie.invariant-loop-s
 invariant-loop t n issued waiters ok₀ s₀ ok s =
     (s ≤ stripe_count) × ((ok && all (room issued (table_of width t).lasts (table_of width t).locks) (stripes_from s)) ≡ all (room issued (table_of width t).lasts (table_of width t).locks) stripes)
 
-abbrev decreases-loop : tie.decreases-loop
+abbrev decreases-loop : tie.decreases-loop-s
 decreases-loop t n issued waiters ok₀ s₀ ok s = stripe_count - s
 
-loop-holds : tie.Need-loop-init invariant-loop decreases-loop
+loop-holds : tie.Need-loop-s-init invariant-loop decreases-loop
 loop-holds c = (search rules, refl)
 
-shared-slice-read-ok : tie.Need-shared-slice-read-ok invariant-loop decreases-loop
+shared-slice-read-ok : tie.Need-bounds-waiters-s invariant-loop decreases-loop
 shared-slice-read-ok c = let l = c.before.before.before.before.before.before.requires.1.long in omega arith
 
-add_ok : tie.Need-overflow-add-ok invariant-loop decreases-loop
+add_ok : tie.Need-overflow_add-ok invariant-loop decreases-loop
 add_ok c =
     let l = c.before.before.before.before in
     let s = l.before.before.before in
-    let f = s.requires.1.few l.loop.s (omega arith) in
+    let f = s.requires.1.few l.loop-s.s (omega arith) in
     let m = s.requires.0.most in
     omega arith
 
-loop-again : tie.Need-loop-preserved invariant-loop decreases-loop
+loop-again : tie.Need-loop-s-preserved invariant-loop decreases-loop
 unfolding room
 loop-again c =
     let l = c.before.before.before.before in
@@ -43,9 +43,9 @@ loop-again c =
     let t = s.args.t.now in
     let X = table_of width t in (
       omega arith,
-      all_more (room s.args.issued X.lasts X.locks) _ l.loop.ok l.loop.s _ (stripes-from l.loop.s (omega arith))
-          (rw (c.before.before.last_of.ensures.0, tallied s.args.n s.args.waiters.now X.locks s.requires.1 (records-end s.args.n s.args.n t s.requires.0 (omega arith)) l.loop.s (omega arith)))
-          l.loop.invariant.1,
+      all_more (room s.args.issued X.lasts X.locks) _ l.loop-s.ok l.loop-s.s _ (stripes-from l.loop-s.s (omega arith))
+          (rw (c.before.before.last_of.ensures.0, tallied s.args.n s.args.waiters.now X.locks s.requires.1 (records-end s.args.n s.args.n t s.requires.0 (omega arith)) l.loop-s.s (omega arith)))
+          l.loop-s.invariant.1,
     )
 
 returns : tie.Need-returns invariant-loop decreases-loop
@@ -53,7 +53,7 @@ returns c =
     let l = c.before in
     let s = l.before.before.before in
     let X = table_of width s.args.t.now in
-    all_done (room s.args.issued X.lasts X.locks) _ l.loop.ok (stripes-end l.loop.s (omega arith)) l.loop.invariant.1
+    all_done (room s.args.issued X.lasts X.locks) _ l.loop-s.ok (stripes-end l.loop-s.s (omega arith)) l.loop-s.invariant.1
 
 pub rooms_spec : {M : Type 1} → statement M
 rooms_spec =

@@ -4,13 +4,13 @@ use Rattle.sound.specs.Parts.{smaller_yields}
 use Rattle.sound.proofs.smaller_yields.Statement.{statement}
 use Rattle.sound.proofs.smaller_yields.Tie as tie
 
-returns : tie.Need-returns
+returns : tie.Need-returns-then-a-number
 unfolding smaller_yields
-returns c = rw (lt-ltb _ _ c.before.before.if1.true)
+returns c = rw (lt-ltb _ _ c.before.before.if-a-number.true)
 
-returns-2 : tie.Need-returns-2
+returns-2 : tie.Need-returns
 unfolding smaller_yields
-returns-2 c = rw (le-ltb _ _ c.before.before.if1.false)
+returns-2 c = rw (le-ltb _ _ c.before.before.if-a-number.false)
 
 pub smaller_yields_spec : {M : Type 1} → statement M
 smaller_yields_spec = tie.close (tie.spec returns returns-2)
