@@ -10,10 +10,10 @@ use Rattle.table.proofs.Scan.{scan-first, scan-on, scan-none, reads, reads-not}
 use Rattle.settle.proofs.first_waiting.Statement.{statement}
 use Rattle.settle.proofs.first_waiting.Tie as tie
 
-abbrev invariant-loop : tie.invariant-loop
+abbrev invariant-loop : tie.invariant-loop-i
 invariant-loop t n i₀ i = Past waits n (locks_of width t) i
 
-abbrev decreases-loop : tie.decreases-loop
+abbrev decreases-loop : tie.decreases-loop-i
 decreases-loop t n i₀ i = n - i
 
 pub first_waiting_spec : {M : Type 1} → statement M

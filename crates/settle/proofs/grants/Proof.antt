@@ -12,25 +12,25 @@ use borrow.Author.Rules.{rules}
 use Rattle.settle.proofs.grants.Statement.{statement}
 use Rattle.settle.proofs.grants.Tie as tie
 
-abbrev invariant-loop : tie.invariant-loop
+abbrev invariant-loop : tie.invariant-loop-i
 invariant-loop t₀ b₀ n j k₀ i₀ t b k i = (i ≤ n) × Did n j (turns i (table_of width t₀)) b₀ k t b
 
-abbrev decreases-loop : tie.decreases-loop
+abbrev decreases-loop : tie.decreases-loop-i
 decreases-loop t₀ b₀ n j k₀ i₀ t b k i = n - i
 
-turn-requires : tie.Need-turn-requires invariant-loop decreases-loop
+turn-requires : tie.Need-turn-k-requires invariant-loop decreases-loop
 turn-requires c κs =
     let s = c.before.before.before.before.before.before in
-    let D = c.before.before.before.loop.invariant.1 in
-    (search turns-good, search rules, turns-room _ _ _ _ _ s.args.b.now _ _ c.before.before.loop-test.true D s.requires.1)
+    let D = c.before.before.before.loop-i.invariant.1 in
+    (search turns-good, search rules, turns-room _ _ _ _ _ s.args.b.now _ _ c.before.before.loop-i-test.true D s.requires.1)
 
-loop-again : tie.Need-loop-preserved invariant-loop decreases-loop
-loop-again c = (search rules, turns_more _ _ _ _ _ _ _ _ _ _ _ c.before.before.before.before.before.before.before.before.loop.invariant.1 c.before.before.before.before.turn.ensures)
+loop-again : tie.Need-loop-i-preserved invariant-loop decreases-loop
+loop-again c = (search rules, turns_more _ _ _ _ _ _ _ _ _ _ _ c.before.before.before.before.before.before.before.before.loop-i.invariant.1 c.before.before.before.before.turn-k.ensures)
 
 returns : tie.Need-returns invariant-loop decreases-loop
 returns c =
-    let e : ◌≡◌ {A = ℕ} c.before.loop.i c.before.before.before.before.args.n = omega arith in
-    rw e at c.before.loop.invariant.1
+    let e : ◌≡◌ {A = ℕ} c.before.loop-i.i c.before.before.before.before.args.n = omega arith in
+    rw e at c.before.loop-i.invariant.1
 
 pub grants_spec : {M : Type 1} → statement M
 grants_spec =

@@ -5,12 +5,12 @@ use Rattle.settle.proofs.settle.Statement.{statement}
 use Rattle.settle.proofs.settle.Tie as tie
 
 returns : tie.Need-returns
-returns c = settle-done _ _ c.before.before.before.before.before.before.before.before.before.before.before.before.before.before.before.before.requires.0 _ _ _ _ _ c.before.before.before.before.before.before.before.before.before.before.before.grants.ensures _ _ _ c.before.before.before.before.revocations.ensures
+returns c = settle-done _ _ c.before.before.before.before.before.before.before.before.before.before.before.before.before.before.before.before.requires.0 _ _ _ _ _ c.before.before.before.before.before.before.before.before.before.before.before.grants-k.ensures _ _ _ c.before.before.before.before.revocations.ensures
 
 revocations-requires : tie.Need-revocations-requires
 revocations-requires c κs =
     let s = c.before.before.before.before.before.before.before.before.before.before.before in
-    let D = c.before.before.before.before.before.before.grants.ensures in
+    let D = c.before.before.before.before.before.before.grants-k.ensures in
     (settle-moded _ _ s.requires.0 _ _ _ _ _ D, settle-room _ _ s.requires.0 _ _ _ _ _ D s.requires.1)
 
 pub settle_spec : {M : Type 1} → statement M

@@ -7,16 +7,16 @@ use borrow.Author.Rules.{rules}
 use Rattle.settle.proofs.take_number.Statement.{statement}
 use Rattle.settle.proofs.take_number.Tie as tie
 
-one_more : tie.Need-overflow-add-t10
+one_more : tie.Need-overflow_add-v
 one_more c =
-    let s = c.before.before.before.before.before.before in
-    let e = writer-next (table_of width s.args.t.now).lasts s.args.w c.before.before.before.if1.false in
+    let s = c.before.before.before.before.before in
+    let e = writer-next (table_of width s.args.t.now).lasts s.args.w c.before.before.if-w-eq-PR.false in
     omega arith
 
-put-last-requires : tie.Need-put-last-requires
+put-last-requires : tie.Need-put_last-requires
 put-last-requires c κs =
-    let s = c.before.before.before.before.before.before.before in
-    let e = writer-next (table_of width s.args.t.now).lasts s.args.w c.before.before.before.before.if1.false in
+    let s = c.before.before.before.before.before.before in
+    let e = writer-next (table_of width s.args.t.now).lasts s.args.w c.before.before.before.if-w-eq-PR.false in
     (s.requires.0, omega arith, omega arith)
 
 pub take_number_spec : {M : Type 1} → statement M

@@ -8,12 +8,12 @@ use Rattle.settle.proofs.turn.Tie as tie
 
 grant-requires : tie.Need-grant-requires
 grant-requires c κs =
-    let s = c.before.before.before.before.before.before.before.before.before.before.before.before in
-    let D = turn-due _ _ _ s.requires.0 s.requires.1 _ c.before.before.before.before.before.blocked.ensures _ _ c.before.before.before.before.before.before.before.before.state-at.ensures c.before.before.before.before.before.before.before.if1.false c.before.before.before.before.if2.false c.before.before.lock-at.ensures.0 in
+    let s = c.before.before.before.before.before.before.before.before.before in
+    let D = turn-due _ _ _ s.requires.0 s.requires.1 _ c.before.before.before.before.blocked.ensures _ _ c.before.before.before.before.before.before.state_at.ensures c.before.before.before.before.before.if-state_at-ne-WAITING.false c.before.before.before.if-blocked.false c.before.before.lock_at-w.ensures.0 in
     (D, due-room _ _ _ _ D _ s.args.b.now s.requires.2)
 
-one_more : tie.Need-overflow-add-result
-one_more c = let s = c.before.before.before.before.before.before.before.before.before.before.before.before.before.before.before.before.before in omega (arith, s.requires.2, s.well-formed, c.before.before.before.before.grant.ensures.count)
+one_more : tie.Need-overflow_add-result
+one_more c = let s = c.before.before.before.before.before.before.before.before.before.before.before.before.before.before in omega (arith, s.requires.2, s.well_formed, c.before.before.before.before.grant.ensures.count)
 
 pub turn_spec : {M : Type 1} → statement M
 turn_spec =
