@@ -9,31 +9,31 @@ use Rattle.line.proofs.Steps.{digits-end, digits-stop, digits-over, digits_more}
 use Rattle.line.proofs.digits.Statement.{statement}
 use Rattle.line.proofs.digits.Tie as tie
 
-abbrev invariant-loop : tie.invariant-loop
+abbrev invariant-loop : tie.invariant-loop-i
 invariant-loop s from front v₀ i₀ v i = read_digits v (drop i s) ≡ read_digits front (drop from s)
 
-abbrev decreases-loop : tie.decreases-loop
+abbrev decreases-loop : tie.decreases-loop-i
 decreases-loop s from front v₀ i₀ v i = length s - i
 
-returns : tie.Need-returns invariant-loop decreases-loop
+returns : tie.Need-returns-then-d-gt9 invariant-loop decreases-loop
 returns c =
     let l = c.before.before.before in
-    digits-stop _ _ l.loop-test.true c.before.digit.ensures.0 _ c.if1.true ∙ l.before.loop.invariant
+    digits-stop _ _ l.loop-i-test.true c.before.digit-d.ensures.0 _ c.if-d-gt9.true ∙ l.before.loop-i.invariant
 
-returns-2 : tie.Need-returns-2 invariant-loop decreases-loop
+returns-2 : tie.Need-returns-then-d-v invariant-loop decreases-loop
 returns-2 c =
     let d = c.before.before.before in
     let l = d.before.before in
-    c.give-up.ensures ∙ digits-over _ _ l.loop-test.true d.digit.ensures.0 _ (omega arith) (omega arith) ∙ l.before.loop.invariant
+    c.give_up.ensures ∙ digits-over _ _ l.loop-i-test.true d.digit-d.ensures.0 _ (omega arith) (omega arith) ∙ l.before.loop-i.invariant
 
-loop-again : tie.Need-loop-preserved invariant-loop decreases-loop
+loop-again : tie.Need-loop-i-preserved invariant-loop decreases-loop
 loop-again c =
     let d = c.before.before in
     let l = d.before.before in
-    digits_more _ _ l.loop-test.true d.digit.ensures.0 _ (omega arith) (omega arith) ∙ l.before.loop.invariant
+    digits_more _ _ l.loop-i-test.true d.digit-d.ensures.0 _ (omega arith) (omega arith) ∙ l.before.loop-i.invariant
 
-returns-3 : tie.Need-returns-3 invariant-loop decreases-loop
-returns-3 c = digits-end _ _ c.loop-test.false _ ∙ c.before.loop.invariant
+returns-3 : tie.Need-returns invariant-loop decreases-loop
+returns-3 c = digits-end _ _ c.loop-i-test.false _ ∙ c.before.loop-i.invariant
 
 pub digits_spec : {M : Type 1} → statement M
 digits_spec =

@@ -6,23 +6,23 @@ use Rattle.line.proofs.Steps.{number-end, number-none, number-zero, number_more}
 use Rattle.line.proofs.number.Statement.{statement}
 use Rattle.line.proofs.number.Tie as tie
 
-returns : tie.Need-returns
-returns c = c.give-up.ensures ∙ number-end _ _ c.before.if1.true
+returns : tie.Need-returns-then-s-at
+returns c = c.give_up.ensures ∙ number-end _ _ c.before.if-s-at.true
 
-returns-2 : tie.Need-returns-2
+returns-2 : tie.Need-returns-then-d-gt9
 returns-2 c =
     let b = c.before.before in
-    c.give-up2.ensures ∙ number-none _ _ b.before.before.if1.false b.digit.ensures.0 c.before.if2.true
+    c.give_up-then-d-gt9.ensures ∙ number-none _ _ b.before.before.if-s-at.false b.digit-d.ensures.0 c.before.if-d-gt9.true
 
-returns-3 : tie.Need-returns-3
+returns-3 : tie.Need-returns-then-d-eq0
 returns-3 c =
     let b = c.before.before in
-    number-zero _ _ b.before.before.if1.false b.digit.ensures.0 (omega arith)
+    number-zero _ _ b.before.before.if-s-at.false b.digit-d.ensures.0 (omega arith)
 
-returns-4 : tie.Need-returns-4
+returns-4 : tie.Need-returns
 returns-4 c =
     let b = c.before.before.before in
-    c.digits.ensures ∙ number_more _ _ b.before.before.if1.false b.digit.ensures.0 (omega arith) (λ e. omega arith)
+    c.digits.ensures ∙ number_more _ _ b.before.before.if-s-at.false b.digit-d.ensures.0 (omega arith) (λ e. omega arith)
 
 pub number_spec : {M : Type 1} → statement M
 number_spec =
