@@ -5,10 +5,10 @@ use Rattle.lines.proofs.Keeping.{keeps-more, keeps-full}
 use Rattle.lines.proofs.keep.Statement.{statement}
 use Rattle.lines.proofs.keep.Tie as tie
 
-returns : tie.Need-returns
+returns : tie.Need-returns-then-n-line
 returns c = let a = c.before.args in record { room = omega arith; keeps = keeps-more a.line.now a.n a.b (omega arith) }
 
-returns-2 : tie.Need-returns-2
+returns-2 : tie.Need-returns
 returns-2 c =
     let a = c.before.args in
     record { room = omega arith; keeps = keeps-full a.line.now a.n a.b (omega arith) (omega arith) (omega arith) }

@@ -8,25 +8,21 @@ use Rattle.lines.proofs.Keeping.{keeps-read, keeps-bare, bare-cr, bare-other, ba
 use Rattle.lines.proofs.said.Statement.{statement}
 use Rattle.lines.proofs.said.Tie as tie
 
-returns : tie.Need-returns
-returns c = λ p k. rw c.before.before.if1.true (c.read-line.ensures ∙ keeps-read _ p k)
+returns : tie.Need-returns-then-last
+returns c = λ p k. rw c.if-last.true (c.read_line.ensures ∙ keeps-read _ p k)
 
-returns-2 : tie.Need-returns-2
-returns-2 c = λ p k. rw c.before.if1.false (bare-none _ _ c.if2.true ∙ keeps-bare _ p k)
+returns-2 : tie.Need-returns-then-n-eq0
+returns-2 c = λ p k. rw c.if-last.false (bare-none _ _ c.if-n-eq0.true ∙ keeps-bare _ p k)
 
-returns-3 : tie.Need-returns-3
+returns-3 : tie.Need-returns-then-line-end-eq13
 returns-3 c =
-    let t = c.before.before.before.before in
-    let a = t.before.before.before in
-    let e = bare-cr a.args.line.now a.args.n a.requires t.if2.false c.before.before.if3.true in
-    λ p k. rw t.before.if1.false (c.read-line2.ensures ∙ ap read_line e ∙ keeps-bare _ p k)
+    let e = bare-cr c.args.line.now c.args.n c.requires c.if-n-eq0.false c.if-line-end-eq13.true in
+    λ p k. rw c.if-last.false (c.read_line-then-line-end-eq13.ensures ∙ ap read_line e ∙ keeps-bare _ p k)
 
-returns-4 : tie.Need-returns-4
+returns-4 : tie.Need-returns
 returns-4 c =
-    let t = c.before.before.before.before in
-    let a = t.before.before.before in
-    let e = bare-other a.args.line.now a.args.n a.requires t.if2.false c.before.before.if3.false in
-    λ p k. rw t.before.if1.false (c.read-line3.ensures ∙ ap read_line e ∙ keeps-bare _ p k)
+    let e = bare-other c.args.line.now c.args.n c.requires c.if-n-eq0.false c.if-line-end-eq13.false in
+    λ p k. rw c.if-last.false (c.read_line-2.ensures ∙ ap read_line e ∙ keeps-bare _ p k)
 
 pub said_spec : {M : Type 1} → statement M
 said_spec =
