@@ -104,7 +104,7 @@ fields-only (suc n) p ok = go (read_field p.rest) (field-only p.rest) ok (fields
   where
     go : (r : Reading) → Shows (code "," ∷ []) p.rest r → (read_on n r).ok ≡ true → Spells r.rest (numbers n r) (read_on n r).rest
         → Spells p.rest (r.value ∷ numbers n r) (read_on n r).rest
-    go wrong none k u = never (sym (ap (λ r. r.ok) (stays n)) ∙ k)
+    go _ none k u = never (sym (ap (λ r. r.ok) (stays n)) ∙ k)
     go r (some v t m e) k u =
         let f : List ℕ → List ℕ = λ l. code "," ∷ l in
         record { text = e ∙ ap (λ l. f (decimal v ++ l)) u.text ∙ ap f (sym (append_assoc (decimal v) _ _)); fits = (m, u.fits) }

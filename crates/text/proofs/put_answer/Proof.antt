@@ -13,7 +13,7 @@ returns c =
     let a = b.before.before.before.before in
     let z = a.before.before.before.before in
     simp fields-append at
-    (wrote_then (wrote_then (wrote_then z.put_byte.ensures a.put-field.ensures) b.put-field2.ensures) d.put-break.ensures)
+    (wrote_then (wrote_then (wrote_then z.put_byte-a.ensures a.put_field-b.ensures) b.put_field-c.ensures) d.put_break.ensures)
 
 pub put_answer_spec : {M : Type 1} → statement M
 put_answer_spec = tie.close (tie.spec (search rules) (search rules) (search rules) (search rules) (search rules) returns)

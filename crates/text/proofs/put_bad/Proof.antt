@@ -7,7 +7,7 @@ use Rattle.text.proofs.put_bad.Tie as tie
 
 returns : tie.Need-returns
 unfolding line_text fields_text
-returns c = wrote_then c.before.before.before.before.before.before.put_byte.ensures c.before.before.put-break.ensures
+returns c = wrote_then c.before.before.before.before.before.before.put_byte-m.ensures c.before.before.put_break.ensures
 
 pub put_bad_spec : {M : Type 1} → statement M
 put_bad_spec = tie.close (tie.spec (search rules) (search rules) (search rules) returns)

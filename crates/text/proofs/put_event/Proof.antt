@@ -13,8 +13,8 @@ returns c =
     let a = b.before.before.before.before in
     let l = a.before.before.before in
     let s = l.before.before.before.before in
-    event-line _ (event_place s.args.k) _ _ l.before.u32-at.ensures.0 l.shown-at.ensures.0
-    (rw a.before.letter-of.ensures at a.put_byte.ensures) b.put_four.ensures d.put-four2.ensures e.put-break.ensures
+    event-line _ (event_place s.args.k) _ _ l.before.u32_at-kind.ensures.0 l.shown_at-l.ensures.0
+    (rw a.before.letter_of.ensures at a.put_byte-a.ensures) b.put_four-b.ensures d.put_four-c.ensures e.put_break.ensures
 
 pub put_event_spec : {M : Type 1} → statement M
 put_event_spec =

@@ -10,7 +10,7 @@ returns c =
     let e = d.before.before.before.before in
     let f = e.before.before.before.before in
     let g = f.before.before.before.before in
-    simp fields-append at (wrote_then (wrote_then (wrote_then g.put-field.ensures f.put-field2.ensures) e.put-field3.ensures) d.put-field4.ensures)
+    simp fields-append at (wrote_then (wrote_then (wrote_then g.put_field-p.ensures f.put_field-q.ensures) e.put_field-r.ensures) d.put_field.ensures)
 
 pub put_four_spec : {M : Type 1} → statement M
 put_four_spec = tie.close (tie.spec (search rules) (search rules) (search rules) (search rules) (search rules) returns)
