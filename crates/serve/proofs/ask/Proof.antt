@@ -4,38 +4,38 @@ use borrow.Author.Rules.{rules}
 use Rattle.serve.proofs.ask.Statement.{statement}
 use Rattle.serve.proofs.ask.Tie as tie
 
-returns-2 : tie.Need-returns-2
+returns-2 : tie.Need-returns
 returns-2 c =
-    let s = c.before.before.before.before.before.before.before.before.before.before.before.before.before.before.before.before.before.before.before.before.before.before.before in
-    let p = c.before.before.before.before.before.before.before.before.before.before.before.before.before.before.before.before.before.before.before.request-refusal.ensures in
-    let z = c.before.before.before.before.before.before.before.before.before.before.before.before.before.before.before.before.before.before.if1.false in
+    let s = c.before.before.before.before.before.before.before.before.before.before.before.before.before.before.before.before.before.before.before.before.before in
+    let p = c.before.before.before.before.before.before.before.before.before.before.before.before.before.before.before.before.before.before.request_refusal-k.ensures in
+    let z = c.before.before.before.before.before.before.before.before.before.before.before.before.before.before.before.before.before.if-k-ne0.false in
     let e = c.before.before.before.before.before.before.before.before.before.before.before.before.before.before.before.before.issued.ensures.0 in
-    let a = c.before.before.before.before.before.before.before.before.before.before.before.before.before.before.before.waiting.ensures in
-    request-served _ _ _ _ _ _ s.args.marked _ _ p s.requires.0 z _ e _ a _ _ c.before.before.before.before.before.before.before.before.before.before.before.before.before.put-issued.ensures c.before.before.before.before.before.before.before.before.before.add.ensures _ _ _ _ _ c.before.before.before.before.settled.ensures
+    let a = c.before.before.before.before.before.before.before.before.before.before.before.before.before.before.before.waiting-l.ensures in
+    request-served _ _ _ _ _ _ s.args.marked _ _ p s.requires.0 z _ e _ a _ _ c.before.before.before.before.before.before.before.before.before.before.before.before.before.put_issued.ensures c.before.before.before.before.before.before.before.before.before.add.ensures _ _ _ _ _ c.before.before.before.before.settled.ensures
 
-put-issued-requires : tie.Need-put-issued-requires
+put-issued-requires : tie.Need-put_issued-requires
 put-issued-requires c κs =
-    let s = c.before.before.before.before.before.before.before.before.before in
+    let s = c.before.before.before.before.before.before.before in
     let a = s.args in
-    (search rules, (allowed a.n a.client a.stripe a.mode a.first a.last a.marked _ _ c.before.before.before.before.before.request-refusal.ensures s.requires.0 c.before.before.before.before.if1.false _ c.before.before.issued.ensures.0).handle)
+    (search rules, (allowed a.n a.client a.stripe a.mode a.first a.last a.marked _ _ c.before.before.before.before.request_refusal-k.ensures s.requires.0 c.before.before.before.if-k-ne0.false _ c.before.before.issued.ensures.0).handle)
 
 add-requires : tie.Need-add-requires
 add-requires c κs =
-    let s = c.before.before.before.before.before.before.before.before.before.before.before.before.before in
-    let p = c.before.before.before.before.before.before.before.before.before.request-refusal.ensures in
-    let z = c.before.before.before.before.before.before.before.before.if1.false in
+    let s = c.before.before.before.before.before.before.before.before.before.before.before in
+    let p = c.before.before.before.before.before.before.before.before.request_refusal-k.ensures in
+    let z = c.before.before.before.before.before.before.before.if-k-ne0.false in
     let e = c.before.before.before.before.before.before.issued.ensures.0 in
     let a = s.args in
-    (search rules, (allowed a.n a.client a.stripe a.mode a.first a.last a.marked _ _ p s.requires.0 z _ e).room, request-fits _ _ _ _ _ _ a.marked _ _ p s.requires.0 z _ e _ c.before.before.before.before.before.waiting.ensures)
+    (search rules, (allowed a.n a.client a.stripe a.mode a.first a.last a.marked _ _ p s.requires.0 z _ e).room, request-fits _ _ _ _ _ _ a.marked _ _ p s.requires.0 z _ e _ c.before.before.before.before.before.waiting-l.ensures)
 
 settled-requires : tie.Need-settled-requires
 settled-requires c κs =
-    let s = c.before.before.before.before.before.before.before.before.before.before.before.before.before.before.before.before.before.before in
-    let p = c.before.before.before.before.before.before.before.before.before.before.before.before.before.before.request-refusal.ensures in
-    let z = c.before.before.before.before.before.before.before.before.before.before.before.before.before.if1.false in
+    let s = c.before.before.before.before.before.before.before.before.before.before.before.before.before.before.before.before in
+    let p = c.before.before.before.before.before.before.before.before.before.before.before.before.before.request_refusal-k.ensures in
+    let z = c.before.before.before.before.before.before.before.before.before.before.before.before.if-k-ne0.false in
     let e = c.before.before.before.before.before.before.before.before.before.before.before.issued.ensures.0 in
-    let a = c.before.before.before.before.before.before.before.before.before.before.waiting.ensures in
-    let H = c.before.before.before.before.before.before.before.before.put-issued.ensures in
+    let a = c.before.before.before.before.before.before.before.before.before.before.waiting-l.ensures in
+    let H = c.before.before.before.before.before.before.before.before.put_issued.ensures in
     let K = c.before.before.before.before.add.ensures in
     (request-good _ _ _ _ _ _ s.args.marked _ _ p s.requires.0 z _ e _ a _ _ H K, request-room _ _ _ _ _ _ s.args.marked _ _ p s.requires.0 z _ e _ a _ _ H K _ s.args.b.now s.requires.1)
 
