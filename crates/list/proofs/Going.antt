@@ -63,12 +63,7 @@ module _ (xs₀ : List Item) (t₀ b₀ : List ℕ) where
   abbrev pub whole : Listed
   whole = serve_list (table_of width t₀) xs₀
 
-  pub record State : Type 0 where
-    pub i : ℕ
-    pub k : ℕ
-    pub xs : List Item
-    pub ts : List ℕ
-    pub bs : List ℕ
+  pub record State (i k : ℕ) (xs : List Item) (ts bs : List ℕ) : Type 0 where
     pub sent : List Event
     pub start : Passed xs₀ t₀ b₀
     pub most : length whole.events ≤ max_list_events
@@ -85,13 +80,8 @@ module _ (xs₀ : List Item) (t₀ b₀ : List ℕ) where
   unfolding put_elements
   none_yet = refl
 
-  abbrev pub begun : Passed xs₀ t₀ b₀ → State
+  abbrev pub begun : Passed xs₀ t₀ b₀ → State 0 0 xs₀ t₀ b₀
   begun P = record {
-    i = 0;
-    k = 0;
-    xs = xs₀;
-    ts = t₀;
-    bs = b₀;
     sent = [];
     start = P;
     most = list-few (table_of width t₀) xs₀ P.good.sounds;
@@ -105,49 +95,44 @@ module _ (xs₀ : List Item) (t₀ b₀ : List ℕ) where
     rest = refl;
   }
 
-  module _ (s : State) where
+  module _ (i k : ℕ) (xs : List Item) (ts bs : List ℕ) (s : State i k xs ts bs) where
     -- the outcome of the item that is next
     abbrev pub its : Outcome
-    its = outcome_of s.ts (item_at s.xs s.i)
+    its = outcome_of ts (item_at xs i)
 
     -- the events so far and those that are left are all
-    sent-all : s.sent ++ (left s.ts s.xs s.i).events ≡ whole.events
+    sent-all : s.sent ++ (left ts xs i).events ≡ whole.events
     sent-all = ap (λ (l : Listed). l.events) s.rest
 
-    pub k-most : s.k ≤ max_list_events
+    pub k-most : k ≤ max_list_events
     k-most =
         let c = s.count in
         let m = s.most in
-        let e : length (s.sent ++ (left s.ts s.xs s.i).events) ≡ length whole.events = ap (λ (es : List Event). length es) sent-all in
-        omega (arith, length-append s.sent (left s.ts s.xs s.i).events)
+        let e : length (s.sent ++ (left ts xs i).events) ≡ length whole.events = ap (λ (es : List Event). length es) sent-all in
+        omega (arith, length-append s.sent (left ts xs i).events)
 
-    pub within : s.i < length xs₀ → s.i < length s.xs
-    within l = subst (λ (m : ℕ). s.i < m) (sym s.same-xs) l
+    pub within : i < length xs₀ → i < length xs
+    within l = subst (λ (m : ℕ). i < m) (sym s.same-xs) l
 
     -- the item has room for its events
-    item-most : s.i < length xs₀ → s.k + length its.events ≤ max_list_events
+    item-most : i < length xs₀ → k + length its.events ≤ max_list_events
     item-most l =
-        let later : List Event = (serve_list its.table (drop (suc s.i) s.xs)).events in
-        let f : (left s.ts s.xs s.i).events ≡ its.events ++ later = ap (λ (w : Listed). w.events) (at_first s.ts s.xs s.i (within l)) in
+        let later : List Event = (serve_list its.table (drop (suc i) xs)).events in
+        let f : (left ts xs i).events ≡ its.events ++ later = ap (λ (w : Listed). w.events) (at_first ts xs i (within l)) in
         let e : length (s.sent ++ (its.events ++ later)) ≡ length whole.events = ap (λ (es : List Event). length (s.sent ++ es)) (sym f) ∙ ap (λ (es : List Event). length es) sent-all in
         let c = s.count in
         let m = s.most in
         omega (arith, length-append s.sent (its.events ++ later), length-append its.events later)
 
-    pub item_room : s.i < length xs₀ → Room (s.k + length its.events) s.bs
+    pub item_room : i < length xs₀ → Room (k + length its.events) bs
     item_room l = let m = item-most l in let r = s.start.room in let e = s.same-bs in omega arith
 
-    pub end-room : Room s.k s.bs
+    pub end-room : Room k bs
     end-room = let m = k-most in let r = s.start.room in let e = s.same-bs in omega arith
 
-    abbrev pub next : s.i < length xs₀ → (r : ℕ) (ys : List Item) (u c : List ℕ) → Steps s.i s.k s.xs s.ts s.bs r ys u c
-        → length ys ≡ length s.xs → length u ≡ length s.ts → length c ≡ length s.bs → State
+    abbrev pub next : i < length xs₀ → (r : ℕ) (ys : List Item) (u c : List ℕ) → Steps i k xs ts bs r ys u c
+        → length ys ≡ length xs → length u ≡ length ts → length c ≡ length bs → State (i + 1) r ys u c
     next l r ys u c S lx lt lb = record {
-      i = s.i + 1;
-      k = r;
-      xs = ys;
-      ts = u;
-      bs = c;
       sent = s.sent ++ its.events;
       start = s.start;
       most = s.most;
@@ -155,26 +140,26 @@ module _ (xs₀ : List Item) (t₀ b₀ : List ℕ) where
       same-xs = lx ∙ s.same-xs;
       same-ts = lt ∙ s.same-ts;
       same-bs = lb ∙ s.same-bs;
-      good = step-good s.ts u (item_at s.xs s.i) s.good S.table;
+      good = step-good ts u (item_at xs i) s.good S.table;
       count = counted r S;
-      bytes = step-bytes b₀ s.bs c s.k s.sent its.events s.bytes s.count S.events;
-      rest = goes_on s.i s.k s.xs s.ts s.bs r ys u c s.sent (within l) S ∙ s.rest;
+      bytes = step-bytes b₀ bs c k s.sent its.events s.bytes s.count S.events;
+      rest = goes_on i k xs ts bs r ys u c s.sent (within l) S ∙ s.rest;
     }
       where
-        counted : (r : ℕ) → Steps s.i s.k s.xs s.ts s.bs r ys u c → r ≡ length (s.sent ++ its.events)
+        counted : (r : ℕ) → Steps i k xs ts bs r ys u c → r ≡ length (s.sent ++ its.events)
         counted r S = let a = S.count in let d = s.count in omega (arith, length-append s.sent its.events)
 
     -- the loop is over, and c has the count of events too
-    pub ended : length xs₀ ≤ s.i → (r : Answer) (c : List ℕ) → (r ≡ record { refusal = 0; handle = 0; events = s.k }) × (c ≡ put_be 4 s.bs 0 s.k) → ServesList xs₀ t₀ b₀ r s.xs s.ts c
+    pub ended : length xs₀ ≤ i → (r : Answer) (c : List ℕ) → (r ≡ record { refusal = 0; handle = 0; events = k }) × (c ≡ put_be 4 bs 0 k) → ServesList xs₀ t₀ b₀ r xs ts c
     unfolding list_outcome list_items events_over put_array
     ended over r c F =
-        let all : record { items = s.xs; table = table_of width s.ts; events = s.sent } ≡ whole
-        = sym (all_done s.i s.xs s.ts s.sent (subst (λ (m : ℕ). m ≤ s.i) (sym s.same-xs) over)) ∙ s.rest in
+        let all : record { items = xs; table = table_of width ts; events = s.sent } ≡ whole
+        = sym (all_done i xs ts s.sent (subst (λ (m : ℕ). m ≤ i) (sym s.same-xs) over)) ∙ s.rest in
         record {
           call = rw s.start.none (record {
             answer = F.0 ∙ (λ j. record { refusal = 0; handle = 0; events = (s.count ∙ ap (λ (l : Listed). length l.events) all) j });
             same = λ a. absurd a;
-            table = λ a. subst (λ (X : Table). Holds (length X.locks) X s.ts) (ap (λ (l : Listed). l.table) all) (record { shape = subst (λ (m : ℕ). Shape m s.ts) (sym (locks-length s.ts)) s.good.shape; says = refl });
+            table = λ a. subst (λ (X : Table). Holds (length X.locks) X ts) (ap (λ (l : Listed). l.table) all) (record { shape = subst (λ (m : ℕ). Shape m ts) (sym (locks-length ts)) s.good.shape; says = refl });
             events = F.1 ∙ ap₂ (λ (x : List ℕ) (m : ℕ). put_be 4 x 0 m) s.bytes s.count ∙ ap (λ (es : List Event). put_be 4 (put_events b₀ 0 es) 0 (length es)) (ap (λ (l : Listed). l.events) all) ∙ ap (λ (m : ℕ). put_be 4 (put_events b₀ 0 whole.events) 0 m) (sym (length-map whole.events event_fields));
           });
           items = rw s.start.none (ap (λ (l : Listed). l.items) all);
