@@ -2,7 +2,6 @@
 use mathlib.Core.Path.{◌≡◌, refl}
 use mathlib.Core.Bool.{Bool, true, false, cond}
 use mathlib.Core.List.{List, [], ◌∷◌, ◌++◌}
-use Prim.Native.Nat.{ℕ}
 use Rattle.common.specs.Refusals.{Rule, first_hit}
 
 pub first-stays : (xs ys : List Rule) → (first_hit xs ≡ 0 → ⊥) → first_hit xs ≡ first_hit (xs ++ ys)

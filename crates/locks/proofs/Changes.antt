@@ -4,12 +4,11 @@ use native.Mathlib.Omega.{arith}
 use native.Mathlib.Nat.{le_refl}
 use mathlib.Core.Bool.{Bool, not, ◌&&◌, cond}
 use mathlib.Core.List.{List, map}
-use mathlib.Core.Logic.{◌⊎◌, inl, inr}
+use mathlib.Core.Logic.{inl, inr}
 use mathlib.Core.Path.{◌≡◌, refl, sym, ap, ap₂, subst, ◌∙◌}
 use lib.Dec.{T, ltb, eqb, leb→le, ltb→lt, lt→ltb, eqb→eq}
-use lib.ListN.{length, get_or, length-map}
+use lib.ListN.{get_or, length-map}
 use borrow.Author.Tests.{ne_eqb}
-use Rattle.common.specs.Tests.{all, count, pairs}
 use Rattle.common.proofs.Bools.{and_l, and_r, and_i, by_cond}
 use Rattle.common.proofs.Listed.{all_map, pairs-map, count_map, all-imp}
 use Rattle.modes.specs.Codes.{granted, asked, canceling, pr, nbw, bw}

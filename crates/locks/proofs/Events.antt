@@ -1,6 +1,6 @@
 -- The events of a call: grants in rising handle, then revocations in rising handle, each record at most once, so at most 256. The thought: a lock
 -- that is granted in state 1 conflicts with no waiting request, then or later in the call, so it is not asked in the same call.
-use Prim.Native.Nat.{ℕ, ◌+◌, ◌≤◌, zero-le}
+use Prim.Native.Nat.{ℕ, ◌≤◌, zero-le}
 use native.Mathlib.Omega.{arith}
 use mathlib.Core.Bool.{Bool, true, not, ◌&&◌}
 use mathlib.Core.List.{List, [], ◌∷◌, ◌++◌, map, map-map, map-append, append-nil}

@@ -1,5 +1,4 @@
 -- A call's events fit their fields: each shows a record of the settled table, which is sound.
-use Prim.Native.Nat.{◌<◌}
 use native.Mathlib.Omega.{arith}
 use mathlib.Core.Bool.{Bool}
 use mathlib.Core.List.{List, [], ◌∷◌, ◌++◌, map}

@@ -17,7 +17,7 @@ use Rattle.table.specs.declared.Lock.{Lock}
 use Rattle.table.specs.Table.{Table, nth, blank, marked}
 use Rattle.table.proofs.Facts.{Sound}
 use Rattle.locks.specs.Conflicts.{against, hurries}
-use Rattle.locks.specs.Settle.{Settled, given, next_number, widest, last_given, grant, free, turns}
+use Rattle.locks.specs.Settle.{given, next_number, widest, last_given, grant, free, turns}
 use Rattle.locks.proofs.Widening.{clear, taken, at_most, at_least}
 use Rattle.locks.proofs.Turn.{given-exact, quiet, w-valid-here}
 use Rattle.locks.proofs.Walk.{Sounds, turns-sound}

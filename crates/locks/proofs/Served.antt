@@ -8,8 +8,8 @@ use mathlib.Core.Path.{◌≡◌, refl, ap}
 use lib.Dec.{T, leb, ltb, eqb, leb→le, le→leb, nleb→lt, nltb→le, lt→ltb}
 use lib.ListN.{length, get_or, length-append}
 use Rattle.common.specs.Counters.{width, highest}
-use Rattle.common.specs.Ranges.{within, range, eof}
-use Rattle.common.specs.Tests.{all, count, keep}
+use Rattle.common.specs.Ranges.{range, eof}
+use Rattle.common.specs.Tests.{count, keep}
 use Rattle.common.specs.Refusals.{Rule, first_hit}
 use Rattle.common.proofs.Bools.{and_l, and_r, and_i, undo, by_cond, cond-true}
 use Rattle.common.proofs.Listed.{all-imp, all_join, all_keep, pairs-put, pairs-keep, count-put, count-keep, length-keep}
@@ -21,7 +21,7 @@ use Rattle.table.specs.Sound.{valid, differ, share, agree, room, stripes, wants,
 use Rattle.table.proofs.Facts.{valid→, →valid, still-valid, →friends, Sound, sound→, →sound}
 use Rattle.locks.specs.declared.Message.{Message}
 use Rattle.locks.specs.declared.Message.TheVariants.{Request, Acknowledge, Downgrade, Release}
-use Rattle.locks.specs.Settle.{Settled, Event, in_state, revoked, turns, settle}
+use Rattle.locks.specs.Settle.{Settled, in_state, revoked, turns, settle}
 use Rattle.locks.specs.Refusals.{rules, refusal, request_rules, named, may_acknowledge, may_downgrade}
 use Rattle.locks.specs.Serve.{Outcome, asking, downgraded, change, answered, accepted, refused, served, serve}
 use Rattle.locks.proofs.Changes.{changed, calm-revoked, calm-acknowledged, calm-downgraded}

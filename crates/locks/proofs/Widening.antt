@@ -3,17 +3,16 @@
 use Prim.Native.Nat.{ℕ, ◌≤◌, ◌<◌, ◌-◌, min}
 use native.Mathlib.Omega.{arith}
 use native.Mathlib.Nat.{le_refl}
-use mathlib.Core.Bool.{Bool, true, false, not, ◌&&◌, ◌||◌, cond}
+use mathlib.Core.Bool.{Bool, true, false, not, cond}
 use mathlib.Core.List.{List, [], ◌∷◌}
 use mathlib.Core.Logic.{◌⊎◌, inl, inr, ⊎_elim}
-use mathlib.Core.Path.{◌≡◌, sym, subst}
 use lib.Dec.{T, T_not, not_T, leb, ltb, leb→le, le→leb, nleb→lt, ltb→lt, nltb→le}
 use Rattle.common.specs.Tests.{all, any}
 use Rattle.table.specs.declared.Lock.{Lock}
 use Rattle.locks.specs.Conflicts.{against, conflicts}
 use Rattle.locks.specs.Settle.{ahead, widest}
 use Rattle.common.proofs.Listed.{all_head, all_tail}
-use Rattle.common.proofs.Bools.{and_l, and_r, and_i, or_l, or_r, by_cond, either, cond-true, cond-false}
+use Rattle.common.proofs.Bools.{and_l, and_r, and_i, or_l, or_r, by_cond, either}
 
 -- the parts of `against`, and how they are put together
 module _ (w r : Lock) (l : ℕ) where

@@ -11,7 +11,6 @@ use Rattle.common.specs.Counters.{width}
 use Rattle.common.specs.Tests.{all, count, up_from}
 use Rattle.table.specs.declared.Lock.{Lock}
 use Rattle.table.specs.Table.{handle_of, stripe_count}
-use Rattle.table.specs.Sound.{stripes}
 use Rattle.table.specs.Bytes.{locks_of}
 use Rattle.table.specs.Places.{lock_at}
 use Rattle.table.proofs.Records.{locks-from, locks-end}

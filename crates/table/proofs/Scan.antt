@@ -6,7 +6,7 @@ use mathlib.Core.Bool.{Bool, true, false}
 use mathlib.Core.List.{List}
 use mathlib.Core.Path.{◌≡◌, sym, ap, subst, ◌∙◌}
 use lib.Dec.{T, eqb}
-use lib.ListN.{length, get_or}
+use lib.ListN.{get_or}
 use lib.Seq.{take_all}
 use borrow.Author.Tests.{eq-eqb, ne_eqb}
 use Rattle.common.specs.Counters.{width}

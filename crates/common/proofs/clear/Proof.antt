@@ -1,6 +1,5 @@
 -- `clear`: zeros from i on make what zeros from the start make.
 use Prim.Native.Nat.{ℕ, ◌-◌}
-use mathlib.Core.List.{List}
 use mathlib.Core.Path.{◌≡◌, refl, sym, ap, ◌∙◌}
 use native.Mathlib.Omega.{arith}
 use native.Mathlib.Numerals.{add-one}

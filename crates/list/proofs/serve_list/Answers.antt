@@ -1,7 +1,7 @@
 -- `serve_list`: the loop begins, goes on by a step, and ends, as proofs/Going.antt says of plain values.
 use mathlib.Core.Path.{sym, ◌∙◌}
 use Rattle.list.proofs.Judging.{passed, list-refused}
-use Rattle.list.proofs.Going.{begun, within, item_room, end-room, next, ended}
+use Rattle.list.proofs.Going.{begun, within, item_room, next, ended}
 use Rattle.list.proofs.serve_list.Goals as goal
 
 pub returns-then-refusal-ne0 : goal.returns-then-refusal-ne0

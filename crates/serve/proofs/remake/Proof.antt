@@ -1,7 +1,6 @@
 -- `remake`: refused by what was found or by 11, or the record becomes another.
 use native.Mathlib.Omega.{arith}
 use mathlib.Core.Path.{sym, ◌∙◌}
-use borrow.Author.Tests.{not-true, not-false}
 use Rattle.serve.proofs.Naming.{remakes, naming-refused, naming-11, becoming-fits, made-good, made-served}
 use borrow.Author.Rules.{rules}
 use Rattle.serve.proofs.remake.Statement.{statement}

@@ -1,6 +1,5 @@
 -- `each_sound`: what is left of the records decides as the whole, and the counts speak of those passed.
 use borrow.Author.Rules.{rules}
-use borrow.Author.Tests.{not-true, not-false}
 use native.Mathlib.Omega.{arith}
 use mathlib.Core.Path.{◌≡◌, refl, sym, subst, ◌∙◌}
 use mathlib.Core.Bool.{true, ◌&&◌}
