@@ -7,7 +7,7 @@ test:
 
 # Serves the lines of standard input; proves and builds the program first, unless nothing changed.
 run:
-	@rt check lockline </dev/null >&2
+	@cd crates/lockline && rt run </dev/null >&2
 	@tools/lockline
 
 bench:
@@ -19,8 +19,8 @@ example: $(archive)
 install: $(archive)
 	@PREFIX='$(PREFIX)' DESTDIR='$(DESTDIR)' tools/install
 
-$(archive): crates.txt $(shell find crates -type f)
-	@rt staticlib gilboreth >&2
+$(archive): crates.txt $(shell find crates -name out -prune -o -type f -print)
+	@tools/archive
 
 clean:
-	rm -rf target host/target
+	rm -rf target host/target crates/*/out

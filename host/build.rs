@@ -1,4 +1,4 @@
-//! Links the proved library, the archive that `rt staticlib gilboreth` writes.
+//! Links the proved library, the archive that `tools/archive` builds.
 //! `GIL_ARCHIVE_DIR` names another directory that holds one.
 //!
 //! The sentences of the refusals stand once, in include/gilboreth.h: the library has them from there.
@@ -49,8 +49,8 @@ fn link() {
         Err(_) => {
             let archive = archive.display();
             eprintln!(
-                "There is no {archive}: run `make test` (or `rt staticlib gilboreth`) \
-                at the top of the repository, which makes it."
+                "There is no {archive}: run `make test` (or `tools/archive`) \
+                at the top of the repository, which builds it."
             );
             std::process::exit(1);
         }

@@ -50,7 +50,7 @@
 //! # Linking
 //!
 //! The crate links `libgilboreth.a`, which is for x86-64, from the repository's target/staticlib, where
-//! `rt staticlib gilboreth` writes it. `GIL_ARCHIVE_DIR` names another directory, as where the library
+//! `tools/archive` puts it. `GIL_ARCHIVE_DIR` names another directory, as where the library
 //! is installed.
 //!
 //! # What is where

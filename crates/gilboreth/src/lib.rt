@@ -1,4 +1,4 @@
-// The public entries, exported to C: numbers, byte buffers and items in, a refusal number out. No entry has a requires.
+// The public entries: numbers, byte buffers and items in, a refusal number out. No entry has a requires. C gets them from `gilboreth_c`.
 #![tactic(auto)]
 
 pub mod lists;

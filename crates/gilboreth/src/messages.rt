@@ -7,8 +7,7 @@ use locks::Message;
 use serve::Answer;
 
 // Asks for a lock.
-#[unsafe(no_mangle)]
-pub extern "C" fn gil_request(
+pub fn gil_request(
     table: &mut [u8],
     events: &mut [u8],
     client: u64,
@@ -31,13 +30,7 @@ pub extern "C" fn gil_request(
 }
 
 // Replies to a revocation.
-#[unsafe(no_mangle)]
-pub extern "C" fn gil_acknowledge(
-    table: &mut [u8],
-    events: &mut [u8],
-    client: u64,
-    handle: u64,
-) -> Answer
+pub fn gil_acknowledge(table: &mut [u8], events: &mut [u8], client: u64, handle: u64) -> Answer
     ensures { Serves (Acknowledge client handle) table.old events.old result table.new events.new }
 {
     let m = Message::Acknowledge {
@@ -48,13 +41,7 @@ pub extern "C" fn gil_acknowledge(
 }
 
 // Makes a canceling BW or PW lock an NBW lock.
-#[unsafe(no_mangle)]
-pub extern "C" fn gil_downgrade(
-    table: &mut [u8],
-    events: &mut [u8],
-    client: u64,
-    handle: u64,
-) -> Answer
+pub fn gil_downgrade(table: &mut [u8], events: &mut [u8], client: u64, handle: u64) -> Answer
     ensures { Serves (Downgrade client handle) table.old events.old result table.new events.new }
 {
     let m = Message::Downgrade {
@@ -65,13 +52,7 @@ pub extern "C" fn gil_downgrade(
 }
 
 // Gives a lock back, or withdraws a waiting request.
-#[unsafe(no_mangle)]
-pub extern "C" fn gil_release(
-    table: &mut [u8],
-    events: &mut [u8],
-    client: u64,
-    handle: u64,
-) -> Answer
+pub fn gil_release(table: &mut [u8], events: &mut [u8], client: u64, handle: u64) -> Answer
     ensures { Serves (Release client handle) table.old events.old result table.new events.new }
 {
     let m = Message::Release {

@@ -22,8 +22,7 @@ fn age(number: u64, pass: u64) -> Age
 }
 
 // Notes a piece: appends its entry to the log, and raises the map by it.
-#[unsafe(no_mangle)]
-pub extern "C" fn gil_note(
+pub fn gil_note(
     map: &mut [u8],
     log: &mut [u8],
     first: u64,
@@ -40,8 +39,7 @@ pub extern "C" fn gil_note(
 }
 
 // Stores the piece's bytes in the image where the map has the piece's number and pass, and answers the refusal or 0.
-#[unsafe(no_mangle)]
-pub extern "C" fn gil_write(
+pub fn gil_write(
     map: &[u8],
     image: &mut [u8],
     first: u64,
@@ -55,16 +53,14 @@ pub extern "C" fn gil_write(
 }
 
 // Fills the map with the log's map.
-#[unsafe(no_mangle)]
-pub extern "C" fn gil_restart(map: &mut [u8], log: &[u8]) -> u64
+pub fn gil_restart(map: &mut [u8], log: &[u8]) -> u64
     ensures { Restarts map.old log.now result map.new }
 {
     restart::restart(map, log)
 }
 
 // Fills a second log with the runs of the log's map.
-#[unsafe(no_mangle)]
-pub extern "C" fn gil_compact(old: &[u8], new: &mut [u8]) -> u64
+pub fn gil_compact(old: &[u8], new: &mut [u8]) -> u64
     ensures { Compacts old.now new.old result new.new }
 {
     compact::compact(old, new)
