@@ -72,9 +72,9 @@ front j [] d c h = absurd (let z : ⊥ = omega arith in z)
 front zero (r ∷ rs) d c h =
     let n = head c in
     record { few = omega arith; canon = none; ends = omega arith; says = λ b k. canon-before b (canon-start r.first r c (omega arith)) k }
-front (suc j) (r ∷ rs) d c h =
+front {p = p} {q = q} (suc j) (r ∷ rs) d c h =
     let n = head c in
-    let f = front j rs d (rest c) (omega arith) in
+    let f = front {p = suc r.last} {q = age_of r} j rs d (rest c) (omega arith) in
     record { few = omega (arith, f.few); canon = next n f.canon; ends = omega (arith, f.few, f.ends); says = λ b k. omega (arith, f.says b k) }
 
 -- some runs on, what is left
@@ -85,7 +85,7 @@ record On (rs ls : List Run) : Type 0 where
 on : {rs : List Run} {x : ℕ} (j : ℕ) (ls : List Run) → Left rs ls x → On rs (drop j ls)
 on {x = x} zero ls l = record { x = x; left = l }
 on {x = x} (suc j) [] l = record { x = x; left = l }
-on (suc j) (r ∷ ls) l = on j ls (left-next r l)
+on {x = x} (suc j) (r ∷ ls) l = on {x = r.last + 1} j ls (left-next r l)
 
 -- of the runs that start at or before the byte x, all but the last end before it
 pub begun-ended : (s : List ℕ) (x n : ℕ) → sound_map_bytes s ≡ true → (n ≡ 0 → ⊥) → Begun s 0 x n → Ended s x (n - 1)

@@ -1,11 +1,11 @@
 -- `note`: the outcome by each answer. What the first four rules have passed is read once into facts.
 use Prim.Native.Nat.{ℕ, ◌+◌, ◌-◌, ◌≤◌, ◌<◌}
 use native.Mathlib.Omega.{arith}
-use mathlib.Core.Path.{◌≡◌, refl, sym, ◌∙◌, ap, subst}
-use mathlib.Core.Bool.{Bool, true, false, not}
+use mathlib.Core.Path.{◌≡◌, sym, ◌∙◌, ap, subst}
+use mathlib.Core.Bool.{true, false}
 use mathlib.Core.List.{List}
-use lib.ListN.{length, take, drop, replicate}
-use borrow.Author.Tests.{not-false, ne_eqb, lt-ltb, le-ltb, le-leb, lt-leb}
+use lib.ListN.{take, drop, replicate}
+use borrow.Author.Tests.{ne_eqb, lt-ltb, le-ltb, le-leb, lt-leb}
 use Rattle.common.specs.Counters.{width}
 use Rattle.common.specs.Refusals.{first_hit}
 use Rattle.common.proofs.Bools.{and_l, and_r, undo, true-is, false-is}

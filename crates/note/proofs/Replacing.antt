@@ -5,8 +5,8 @@ use mathlib.Core.Path.{◌≡◌, refl, sym, ap, ap₂, ◌∙◌}
 use mathlib.Core.Bool.{true, ◌&&◌}
 use mathlib.Core.List.{List, [], ◌∷◌, ◌++◌, map}
 use lib.Dec.{eqb}
-use lib.ListN.{length, take, drop, replicate, length-take, length-drop, length-map, length-replicate, take-append-drop}
-use lib.Seq.{drop-drop, take-length}
+use lib.ListN.{length, take, drop, replicate, length-drop, length-map, take-append-drop}
+use lib.Seq.{drop-drop}
 use borrow.Author.Tests.{eqb-true}
 use Rattle.common.specs.Counters.{width}
 use Rattle.common.specs.Tests.{zeros}
@@ -54,11 +54,10 @@ drawn-tail rs s k d h =
     rw (d.bytes h)
     (zeros-from _ (run_place width k) (λ b l. put-elements-other (run_layout width) (replicate (map_size width) 0) 0 0 (map run_fields rs) b (λ j p e. let n = d.count in omega arith) ∙ blank (map_size width) b))
 
-pub replaced : (m s part : List ℕ) (k e : ℕ) → sound_map_bytes m ≡ true → length s ≡ map_size width → zeros (drop (run_place width k) s) ≡ true
-    → e ≡ run_place width (max (be 4 m 0) k) → e ≤ map_size width → part ≡ take e s → take (length part) part ++ drop (length part) m ≡ s
-replaced m s part k e good long tail f h p =
-    let n : length part ≡ e = ap length p ∙ length-take e s ∙ omega arith in
+pub replaced : (m s : List ℕ) (k e : ℕ) → sound_map_bytes m ≡ true → length s ≡ map_size width → zeros (drop (run_place width k) s) ≡ true
+    → e ≡ run_place width (max (be 4 m 0) k) → e ≤ map_size width → take e s ++ drop e m ≡ s
+replaced m s k e good long tail f h =
     let M = map-facts m good in
     let same : drop e m ≡ drop e s = zeros-same (drop e m) (drop e s) (length-drop e m ∙ omega arith ∙ sym (length-drop e s))
     (further (runs_end width m) e m (omega arith) (map_tail m good)) (further (run_place width k) e s (omega arith) tail) in
-    ap₂ (λ (x : List ℕ) (i : ℕ). x ++ drop i m) (take-length part ∙ p) n ∙ ap (λ (x : List ℕ). take e s ++ x) same ∙ take-append-drop e s
+    ap (λ (x : List ℕ). take e s ++ x) same ∙ take-append-drop e s

@@ -39,7 +39,7 @@ fn replace(map: &mut [u8], scratch: &[u8], k: usize)
 {
     let most = common::greater(runbytes::count(map) as u64, k as u64) as usize;
     let end = runbytes::place(most);
-    bytes::copy(&scratch[0..end], map);
+    map[0..end].copy_from_slice(&scratch[0..end]);
     runbytes::put_count(map, k);
 }
 

@@ -101,6 +101,6 @@ pub fn fill(map: &mut [u8], scratch: &[u8], k: usize)
     requires { (length map.old ≡ map_size width) × (length scratch.now ≡ map_size width) }
     ensures { map.new ≡ put_be 4 scratch.now 0 k }
 {
-    bytes::copy(scratch, map);
+    map.copy_from_slice(scratch);
     runbytes::put_count(map, k);
 }

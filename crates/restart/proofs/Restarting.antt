@@ -1,11 +1,11 @@
 -- `restart`: the outcome by each answer.
 use Prim.Native.Nat.{ℕ, ◌≤◌, ◌<◌}
 use native.Mathlib.Omega.{arith}
-use mathlib.Core.Path.{◌≡◌, refl, sym, ◌∙◌}
-use mathlib.Core.Bool.{Bool, true, false, not}
+use mathlib.Core.Path.{◌≡◌, ◌∙◌}
+use mathlib.Core.Bool.{Bool, true, false}
 use mathlib.Core.List.{List}
 use lib.ListN.{length, replicate}
-use borrow.Author.Tests.{not-true, not-false, eq-eqb, ne_eqb, lt-ltb, le-ltb}
+use borrow.Author.Tests.{eq-eqb, ne_eqb, lt-ltb, le-ltb}
 use Rattle.common.specs.Counters.{width}
 use Rattle.xdr.specs.Be.{put_be}
 use Rattle.runs.specs.Map.{map_of}
@@ -30,11 +30,11 @@ module _ (m l : List ℕ) where
   restart-12 h = refused 12 (λ z. omega arith) (rw (ne_eqb (length m) (map_size width) h))
 
   module _ (fits : length m ≡ map_size width) (b : Bool) (e : b ≡ sound_log_bytes l) where
-    pub restart-13 : not b ≡ true → Restarts m l 13 m
+    pub restart-13 : b ≡ false → Restarts m l 13 m
     unfolding restart_answer
     restart-13 h = refused 13 (λ z. omega arith) (rw (eq-eqb (length m) (map_size width) fits, ← e, h))
 
-    module _ (good : not b ≡ false) (s : List ℕ) (k : ℕ) (d : Stored (map_of (runs_of width l)) (replicate (map_size width) 0) s k) where
+    module _ (good : b ≡ true) (s : List ℕ) (k : ℕ) (d : Stored (map_of (runs_of width l)) (replicate (map_size width) 0) s k) where
       pub restart-16 : max_runs < k → Restarts m l 16 m
       unfolding restart_answer
       restart-16 h = refused 16 (λ z. omega arith) (rw (eq-eqb (length m) (map_size width) fits, ← e, good, ← d.count, lt-ltb max_runs k h))

@@ -11,7 +11,6 @@ use Rattle.xdr.specs.Be.{be}
 use Rattle.xdr.specs.Layout.{fields}
 use Rattle.xdr.specs.Tab.{tab}
 use Rattle.xdr.specs.Array.{array}
-use Rattle.runs.specs.declared.Run.{Run}
 use Rattle.runs.specs.Sound.{sound_map, sound_log, apart}
 use Rattle.runs.specs.Bytes.{run_layout, run_of, runs_of, run_place, runs_end, map_size, log_size, sound_map_bytes, sound_log_bytes}
 

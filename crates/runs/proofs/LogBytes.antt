@@ -1,10 +1,10 @@
 -- The bytes of a log with these entries say them; with one entry more they say one entry more; and the bytes past a log's entries say nothing.
-use Prim.Native.Nat.{ℕ, suc, ◌+◌, ◌≤◌, ◌<◌}
+use Prim.Native.Nat.{ℕ, ◌+◌, ◌≤◌, ◌<◌}
 use native.Mathlib.Omega.{arith}
 use native.Mathlib.Numerals.{add-one}
-use mathlib.Core.Bool.{true, ◌&&◌}
+use mathlib.Core.Bool.{true}
 use mathlib.Core.List.{List, [], ◌∷◌, ◌++◌, map, map-append}
-use mathlib.Core.Path.{◌≡◌, refl, sym, ap, subst, ◌∙◌}
+use mathlib.Core.Path.{◌≡◌, refl, ap, subst, ◌∙◌}
 use lib.Dec.{eqb}
 use lib.ListN.{length, get_or, drop, length-append, length-map}
 use borrow.Author.Tests.{eq-eqb, eqb-true}
@@ -24,7 +24,7 @@ use Rattle.runs.specs.Sound.{max_entries, all_valid, sound_log}
 use Rattle.runs.specs.Valid.{Valid}
 use Rattle.runs.specs.Bytes.{run_layout, run_of, run_fields, runs_of, log_size, run_place, runs_end, sound_log_bytes, log_bytes, appended}
 use Rattle.runs.proofs.Valid.{valid-snoc}
-use Rattle.runs.proofs.Sound.{SoundLog, log_is, is-log}
+use Rattle.runs.proofs.Sound.{log_is, is-log}
 use Rattle.runs.proofs.MapBytes.{bytes-length, bytes_back, bytes-tail}
 
 -- What a sound log's bytes have

@@ -1,11 +1,11 @@
 -- The bytes of a sound map whose ages fit are a sound map's bytes, and say it.
-use Prim.Native.Nat.{ℕ, zero, suc, ◌+◌, ◌*◌, ◌^◌, ◌≤◌, ◌<◌}
+use Prim.Native.Nat.{ℕ, zero, suc, ◌+◌, ◌^◌, ◌≤◌, ◌<◌}
 use native.Mathlib.Omega.{arith}
 use mathlib.Core.Bool.{true, ◌&&◌}
 use mathlib.Core.List.{List, [], ◌∷◌, map}
 use mathlib.Core.Path.{◌≡◌, refl, sym, ap, ◌∙◌}
 use lib.Dec.{eqb}
-use lib.ListN.{length, get_or, drop, replicate, length-replicate, length-map}
+use lib.ListN.{length, drop, replicate, length-replicate, length-map}
 use borrow.Author.Tests.{eq-eqb}
 use Rattle.common.specs.Counters.{width}
 use Rattle.common.specs.Tests.{zeros}

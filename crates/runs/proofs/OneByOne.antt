@@ -6,7 +6,7 @@ use mathlib.Core.List.{List, [], ◌∷◌}
 use native.Mathlib.Omega.{arith}
 use lib.ListN.{drop}
 use Rattle.runs.specs.declared.Run.{Run}
-use Rattle.runs.specs.Owner.{over, owner}
+use Rattle.runs.specs.Owner.{over, owner, age_of}
 use Rattle.runs.proofs.Over.{sides, over-before, over-after}
 use Rattle.runs.proofs.Canon.{Canon, none, rest, canon-before}
 
@@ -19,7 +19,7 @@ pub record Rises (rs : List Run) : Type 0 where
 pub rises : {p q : ℕ} (i : ℕ) (rs : List Run) → Canon p q rs → Rises (drop i rs)
 rises {p} {q} zero rs c = record { tip = p; age = q; canon = c }
 rises (suc i) [] c = record { tip = 0; age = 0; canon = none }
-rises (suc i) (r ∷ rs) c = rises i rs (rest c)
+rises {p = p} {q = q} (suc i) (r ∷ rs) c = rises {p = suc r.last} {q = age_of r} i rs (rest c)
 
 pub alone : {p q : ℕ} {r : Run} {rs : List Run} → Canon p q (r ∷ rs) → (b : ℕ) → (over r b ≡ 0) ⊎ (owner rs b ≡ 0)
 alone {r = r} c b =

@@ -76,9 +76,9 @@ canon-apart (next {r = r} n (next {r = t} {rs = rs} m c)) = and_both (leads r t)
 apart-canon : {p q : ℕ} (r : Run) (rs : List Run) → Next p q r → all_valid rs ≡ true → apart (r ∷ rs) ≡ true → Canon p q (r ∷ rs)
 unfolding apart
 apart-canon r [] n v e = next n none
-apart-canon r (t ∷ rs) n v e =
+apart-canon {p = p} {q = q} r (t ∷ rs) n v e =
     let n' = leads-next r t (and_left (leads r t) (apart (t ∷ rs)) e) (valid-head t rs v) in
-    next n (apart-canon t rs n' (valid-rest t rs v) (and_right (leads r t) (apart (t ∷ rs)) e))
+    next n (apart-canon {p = suc r.last} {q = age_of r} t rs n' (valid-rest t rs v) (and_right (leads r t) (apart (t ∷ rs)) e))
 
 pub sound-canon : (rs : List Run) → sound_map rs ≡ true → Canon 0 0 rs
 sound-canon [] e = none

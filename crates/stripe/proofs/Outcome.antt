@@ -2,7 +2,7 @@
 use Prim.Native.Nat.{ℕ, max}
 use mathlib.Core.Path.{◌≡◌, ap}
 use mathlib.Core.Logic.{⊎_elim}
-use mathlib.Core.List.{List, [], ◌∷◌, ◌++◌}
+use mathlib.Core.List.{[], ◌∷◌, ◌++◌}
 use borrow.Author.Tests.{eq-eqb, ne_eqb}
 use Rattle.common.proofs.Order.{same}
 use Rattle.runs.specs.Owner.{over, owner}

@@ -1,10 +1,9 @@
 -- The rules of a write, judged one after the other: the tests passed and the one that hits decide the answer.
 use Prim.Native.Nat.{ℕ, ◌+◌, ◌^◌, ◌<◌}
 use mathlib.Core.Path.{◌≡◌, sym, ◌∙◌}
-use mathlib.Core.Bool.{Bool, true, false, not}
+use mathlib.Core.Bool.{Bool, true, false}
 use mathlib.Core.List.{List}
 use native.Mathlib.Omega.{arith}
-use borrow.Author.Tests.{not-false}
 use Rattle.common.specs.Counters.{width}
 use Rattle.runs.specs.Ages.{Exact}
 use Rattle.runs.specs.Owner.{age_of}
@@ -16,11 +15,11 @@ use Rattle.stripe.proofs.Accepted.{placed, numbered, numbered-pos, numbered-exac
 use Rattle.write.specs.Write.{write_answer}
 
 module _ (map : List ℕ) (e : Extent) (image : ℕ) (s : Bool) (a : s ≡ sound_map_bytes map) where
-  pub write-12 : not s ≡ true → 12 ≡ write_answer map e image
+  pub write-12 : s ≡ false → 12 ≡ write_answer map e image
   unfolding write_answer
   write-12 t = rw (← a, t)
 
-  module _ (f : not s ≡ false) (p : Bool) (b : p ≡ misplaced e image) where
+  module _ (f : s ≡ true) (p : Bool) (b : p ≡ misplaced e image) where
     pub write-14 : p ≡ true → 14 ≡ write_answer map e image
     unfolding write_answer
     write-14 t = rw (← a, f, ← b, t)
@@ -36,7 +35,7 @@ module _ (map : List ℕ) (e : Extent) (image : ℕ) (s : Bool) (a : s ≡ sound
         write-asks =
             let k = placed e image (sym b ∙ g) in
             let l = numbered e (sym c ∙ h) in
-            (sym a ∙ not-false s f, numbered-pos e l, numbered-exact e l, omega arith)
+            (sym a ∙ f, numbered-pos e l, numbered-exact e l, omega arith)
 
         module _ (d : Bool) (o : d ≡ behind (runs_of width map) (age_of (place e)) e.first e.len) where
           pub write-18 : d ≡ true → 18 ≡ write_answer map e image

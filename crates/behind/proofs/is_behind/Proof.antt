@@ -15,40 +15,40 @@ use Rattle.behind.proofs.Walk.{behind_more, behind-end}
 use Rattle.behind.proofs.is_behind.Statement.{statement}
 use Rattle.behind.proofs.is_behind.Tie as tie
 
-abbrev invariant-loop : tie.invariant-loop
+abbrev invariant-loop : tie.invariant-loop-i
 invariant-loop map first len age n b₀ i₀ b i =
     (i ≤ n) × (behind (drop i (runs_of width map)) (value_of age) b (first + len - b) ≡ behind (runs_of width map) (value_of age) first len)
 
-abbrev decreases-loop : tie.decreases-loop
+abbrev decreases-loop : tie.decreases-loop-i
 decreases-loop map first len age n b₀ i₀ b i = n - i
 
-count-requires : tie.Need-count-requires invariant-loop decreases-loop
+count-requires : tie.Need-count-n-requires invariant-loop decreases-loop
 count-requires c κs = let f = map-facts c.before.args.map.now c.before.requires.0 in omega arith
 
-loop-holds : tie.Need-loop-init invariant-loop decreases-loop
+loop-holds : tie.Need-loop-i-init invariant-loop decreases-loop
 loop-holds c = let a = c.before.before.args in (omega arith, rw (add-sub_cancel_left a.first a.len))
 
-run-at-requires : tie.Need-run-at-requires invariant-loop decreases-loop
-run-at-requires c κs = let s = c.before.before.before.before in room s.args.map.now c.before.loop.i s.requires.0 (omega arith)
+run-at-requires : tie.Need-run_at-requires invariant-loop decreases-loop
+run-at-requires c κs = let s = c.before.before.before.before in room s.args.map.now c.before.loop-i.i s.requires.0 (omega arith)
 
-onward-requires : tie.Need-onward-requires invariant-loop decreases-loop
-onward-requires c κs = let s = c.before.before.before.before.before in (s.requires.2, rw c.run_at.ensures (valid-here s.args.map.now c.before.before.loop.i s.requires.0 (omega arith)))
+onward-requires : tie.Need-onward-b-requires invariant-loop decreases-loop
+onward-requires c κs = let s = c.before.before.before.before.before in (s.requires.2, rw c.run_at.ensures (valid-here s.args.map.now c.before.before.loop-i.i s.requires.0 (omega arith)))
 
-loop-again : tie.Need-loop-preserved invariant-loop decreases-loop
+loop-again : tie.Need-loop-i-preserved invariant-loop decreases-loop
 loop-again c =
     let l = c.before.before.before in
     let s = l.before.before.before in
     let a = s.args in (
       omega arith,
-      rw (c.onward.ensures, c.before.run_at.ensures)
-          (behind_more a.map.now l.loop.i s.requires.0 (omega arith) (value_of a.age) (a.first + a.len) l.loop.b _ (omega arith) l.loop.invariant.1),
+      rw (c.onward-b.ensures, c.before.run_at.ensures)
+          (behind_more a.map.now l.loop-i.i s.requires.0 (omega arith) (value_of a.age) (a.first + a.len) l.loop-i.b _ (omega arith) l.loop-i.invariant.1),
     )
 
 returns : tie.Need-returns invariant-loop decreases-loop
 returns c =
     let l = c.before in
     let a = l.before.before.before.args in
-    behind-end a.map.now l.loop.i (omega arith) (value_of a.age) (a.first + a.len) l.loop.b _ (omega arith) l.loop.invariant.1
+    behind-end a.map.now l.loop-i.i (omega arith) (value_of a.age) (a.first + a.len) l.loop-i.b _ (omega arith) l.loop-i.invariant.1
 
 pub is_behind_spec : {M : Type 1} → statement M
 is_behind_spec =

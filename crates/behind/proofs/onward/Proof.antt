@@ -7,13 +7,13 @@ use Rattle.behind.proofs.Behind.{onward-before, onward-after, onward-under, onwa
 use Rattle.behind.proofs.onward.Statement.{statement}
 use Rattle.behind.proofs.onward.Tie as tie
 
-returns-3 : tie.Need-returns-3
-returns-3 c = onward-under _ _ _ (ltb-true _ _ (sym c.before.older.ensures ∙ c.if3.true))
+returns-3 : tie.Need-returns-then-older
+returns-3 c = onward-under _ _ _ (ltb-true _ _ (sym c.before.older.ensures ∙ c.if-older.true))
 
-returns-4 : tie.Need-returns-4
+returns-4 : tie.Need-returns
 returns-4 c =
     let o = c.before.before in
-    onward-in _ _ _ o.before.before.before.if1.false o.before.if2.false (ltb-false _ _ (sym o.older.ensures ∙ c.before.if3.false))
+    onward-in _ _ _ o.before.before.before.if-b-r.false o.before.if-r-b.false (ltb-false _ _ (sym o.older.ensures ∙ c.before.if-older.false))
 
 pub onward_spec : {M : Type 1} → statement M
 onward_spec =

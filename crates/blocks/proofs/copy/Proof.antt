@@ -18,25 +18,25 @@ grown i e part piece h g same =
     let q : i + k ≡ e = omega arith in
     rw (same, ← append_assoc, ← take-add, q, take_at (take e piece) (drop k (drop i part)) e (simp length-take (omega arith)))
 
-abbrev invariant-loop : tie.invariant-loop
+abbrev invariant-loop : tie.invariant-loop-i
 invariant-loop part₀ piece block₀ i₀ part block i = (i ≤ length piece) × (length part ≡ length piece) × (length block ≡ length block₀) × (take i part ≡ take i piece)
 
-abbrev decreases-loop : tie.decreases-loop
+abbrev decreases-loop : tie.decreases-loop-i
 decreases-loop part₀ piece block₀ i₀ part block i = length piece - i
 
-loop-again : tie.Need-loop-preserved invariant-loop decreases-loop
+loop-again : tie.Need-loop-i-preserved invariant-loop decreases-loop
 loop-again c =
     let b = c.before.before.before.before.before.before in
     let l = b.before.before.before.before in
-    (search rules, search rules, search rules, rw (c.before.before.copy-bytes3.ensures, b.copy-bytes2.ensures) (grown l.loop.i (l.loop.i + 16384) l.loop.part l.before.before.before.before.args.piece.now (omega arith) (omega arith) l.loop.invariant.3))
+    (search rules, search rules, search rules, rw (c.before.before.copy_bytes-in-loop-i-2.ensures, b.copy_bytes-in-loop-i.ensures) (grown l.loop-i.i (l.loop-i.i + 16384) l.loop-i.part l.before.before.before.before.args.piece.now (omega arith) (omega arith) l.loop-i.invariant.3))
 
-returns-2 : tie.Need-returns-2 invariant-loop decreases-loop
+returns-2 : tie.Need-returns invariant-loop decreases-loop
 returns-2 c =
     let l = c.before.before.before.before.before.before in
     let p = l.before.before.before.before.args.piece.now in
     let n = length p in
     sym (take_all n _ (search rules))
-    ∙ rw (c.before.before.copy-bytes4.ensures, l.loop.invariant.1) (grown l.loop.i n l.loop.part p (omega arith) (omega arith) l.loop.invariant.3)
+    ∙ rw (c.before.before.copy_bytes-2.ensures, l.loop-i.invariant.1) (grown l.loop-i.i n l.loop-i.part p (omega arith) (omega arith) l.loop-i.invariant.3)
     ∙ take_all n p (omega arith)
 
 pub copy_spec : {M : Type 1} → statement M

@@ -9,24 +9,24 @@ use borrow.Author.Rules.{rules}
 use Rattle.blocks.proofs.copy_bytes.Statement.{statement}
 use Rattle.blocks.proofs.copy_bytes.Tie as tie
 
-abbrev invariant-loop : tie.invariant-loop
+abbrev invariant-loop : tie.invariant-loop-i
 invariant-loop part₀ piece i₀ part i = (i ≤ length piece) × (length part ≡ length piece) × (take i part ≡ take i piece)
 
-abbrev decreases-loop : tie.decreases-loop
+abbrev decreases-loop : tie.decreases-loop-i
 decreases-loop part₀ piece i₀ part i = length piece - i
 
-loop-again : tie.Need-loop-preserved invariant-loop decreases-loop
+loop-again : tie.Need-loop-i-preserved invariant-loop decreases-loop
 loop-again c =
     let l = c.before.before in
     let p = l.before.args.piece.now in
-    let i = l.loop.i in
-    (omega arith, simp length-set (omega arith), rw (add-one, take-suc-set l.loop.part i _ (omega arith), take-suc p i 0 (omega arith), l.loop.invariant.2))
+    let i = l.loop-i.i in
+    (omega arith, simp length-set (omega arith), rw (add-one, take-suc-set l.loop-i.part i _ (omega arith), take-suc p i 0 (omega arith), l.loop-i.invariant.2))
 
 returns : tie.Need-returns invariant-loop decreases-loop
 returns c =
     let l = c.before in
-    let i = l.loop.i in
-    sym (take_all i l.loop.part (omega arith)) ∙ l.loop.invariant.2 ∙ take_all i l.before.args.piece.now (omega arith)
+    let i = l.loop-i.i in
+    sym (take_all i l.loop-i.part (omega arith)) ∙ l.loop-i.invariant.2 ∙ take_all i l.before.args.piece.now (omega arith)
 
 pub copy_bytes_spec : {M : Type 1} → statement M
 copy_bytes_spec =

@@ -8,7 +8,7 @@ use Rattle.compact.proofs.by_scratch.Statement.{statement}
 use Rattle.compact.proofs.by_scratch.Tie as tie
 
 rebuilt-requires : tie.Need-rebuilt-requires
-rebuilt-requires c κs = (omega arith, sym c.before.before.log-sound.ensures ∙ c.before.if2.false)
+rebuilt-requires c κs = (omega arith, sym c.before.before.log-sound.ensures ∙ not-false _ c.before.if2.false)
 
 put-down-requires : tie.Need-put-down-requires
 put-down-requires c κs =

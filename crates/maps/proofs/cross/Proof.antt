@@ -6,12 +6,12 @@ use Rattle.maps.proofs.Raising.{cross-went}
 use Rattle.maps.proofs.cross.Statement.{statement}
 use Rattle.maps.proofs.cross.Tie as tie
 
-push-requires-3 : tie.Need-push-requires-3
+push-requires-3 : tie.Need-push-requires
 push-requires-3 c κs =
     let p2 = c.before.before.before in
     let p1 = p2.before.before.before.before.before.before.before in
     let o = p1.before.before.before.before in
-    (p2.push2.auto.0 ∙ p1.push.auto.0 ∙ o.requires.0, p2.push2.ensures.fine, o.requires.2)
+    (p2.push-inside.auto.out ∙ p1.push-before.auto.out ∙ o.requires.0, p2.push-inside.ensures.fine, o.requires.2)
 
 returns : tie.Need-returns
 returns c =
@@ -19,8 +19,8 @@ returns c =
     let p2 = p3.before.before.before.before in
     let p1 = p2.before.before.before.before.before.before.before in
     let o = p1.before.before.before.before in
-    cross-went o.args.p _ _ _ _ _ _ _ _ _ _ _ _ o.args.piece o.requires.3 p1.before.lesser.ensures p2.before.before.lesser2.ensures p2.before.later.ensures
-    p1.push.ensures p2.push2.ensures p3.push3.ensures
+    cross-went o.args.p _ _ _ _ _ _ _ _ _ _ _ _ o.args.piece o.requires.3 p1.before.lesser.ensures p2.before.before.lesser-2.ensures p2.before.later.ensures
+    p1.push-before.ensures p2.push-inside.ensures p3.push.ensures
 
 pub cross_spec : {M : Type 1} → statement M
 cross_spec =

@@ -18,13 +18,13 @@ facts c = map-facts _ c.requires.1
 count-requires : tie.Need-count-requires
 count-requires c κs = omega (arith, (facts c.before.before).long)
 
-returns : tie.Need-returns
+returns : tie.Need-returns-then-total-gt-MAX_RUNS
 returns c = record { count = rw (length-drop, runs-length) (rw c.before.count.ensures.0); bytes = λ h. absurd (let z : ⊥ = omega arith in z) }
 
 keep-requires : tie.Need-keep-requires
 keep-requires c κs = let f = facts c.before.before.before.before.before in ((omega arith, omega arith), (f.long, f.few, omega arith))
 
-returns-2 : tie.Need-returns-2
+returns-2 : tie.Need-returns
 returns-2 c =
     let o = c.before.before.before.before.before.before.before.before in
     let rs = drop o.args.i (runs_of width o.args.map.now) in

@@ -13,17 +13,17 @@ facts c = map-facts _ c.requires.0
 count-requires : tie.Need-count-requires
 count-requires c κs = omega (arith, (facts c.before).long)
 
-first-at-requires : tie.Need-first-at-requires
+first-at-requires : tie.Need-first_at-requires
 first-at-requires c κs = let f = facts c.before.before.before in omega (arith, f.long, f.few)
 
-returns : tie.Need-returns
+returns : tie.Need-returns-then-i-count
 returns c =
     let o = c.before.before.before.before in
     let s = o.args.map.now in
     let i = o.args.i in
-    rw (runs-from s i (omega arith), c.first-at.ensures) (refl, let v = valid-at s i (omega arith) (facts o).well-formed in omega arith)
+    rw (runs-from s i (omega arith), c.first_at.ensures) (refl, let v = valid-at s i (omega arith) (facts o).good in omega arith)
 
-returns-2 : tie.Need-returns-2
+returns-2 : tie.Need-returns
 returns-2 c = let o = c.before.before.before in rw (runs-end o.args.map.now o.args.i (omega arith)) (refl, omega arith)
 
 pub start_at_spec : {M : Type 1} → statement M

@@ -12,27 +12,27 @@ use Rattle.pen.proofs.Keeps.{keep-more}
 use Rattle.pen.proofs.keep.Statement.{statement}
 use Rattle.pen.proofs.keep.Tie as tie
 
-abbrev invariant-loop : tie.invariant-loop
+abbrev invariant-loop : tie.invariant-loop-i
 invariant-loop out₀ k map from n i₀ out i = (i ≤ n) × (length out ≡ map_size width) × (out ≡ with_runs out₀ k (take i (drop from (runs_of width map))))
 
-abbrev decreases-loop : tie.decreases-loop
+abbrev decreases-loop : tie.decreases-loop-i
 decreases-loop out₀ k map from n i₀ out i = n - i
 
-loop-holds : tie.Need-loop-init invariant-loop decreases-loop
+loop-holds : tie.Need-loop-i-init invariant-loop decreases-loop
 unfolding put_elements
 loop-holds c = (omega arith, omega arith, refl)
 
-loop-again : tie.Need-loop-preserved invariant-loop decreases-loop
+loop-again : tie.Need-loop-i-preserved invariant-loop decreases-loop
 loop-again c =
     let a = c.before.before.before.before.before.before.before.before.before.args in
-    let l = c.before.before.before.before.before.before.loop in (
+    let l = c.before.before.before.before.before.before.loop-i in (
       omega arith,
       omega arith,
-      keep-more a.map.now a.out.now a.k a.from l.i (omega arith) l.out _ l.invariant.2 (rw (← c.before.before.before.run_at.ensures) c.before.before.put-run.ensures),
+      keep-more a.map.now a.out.now a.k a.from l.i (omega arith) l.out _ l.invariant.2 (rw (← c.before.before.before.run_at.ensures) c.before.before.put_run.ensures),
     )
 
 returns : tie.Need-returns invariant-loop decreases-loop
-returns c = let e : c.before.loop.i ≡ c.before.before.before.before.args.n = omega arith in rw (← e) c.before.loop.invariant.2
+returns c = let e : c.before.loop-i.i ≡ c.before.before.before.before.args.n = omega arith in rw (← e) c.before.loop-i.invariant.2
 
 pub keep_spec : {M : Type 1} → statement M
 keep_spec =

@@ -17,14 +17,14 @@ entry-requires c κs =
     let f = log_facts _ p.0 in
     (p.0, omega (arith, f.few), p.2.inside _ (omega arith) (omega arith))
 
-returns : tie.Need-returns
+returns : tie.Need-returns-then-taken-count
 returns c = let o = c.before.before.before.before.before in
-    let l : o.args.taken < be 4 o.args.log.now 0 = omega (arith, c.before.if1.true, c.before.before.count.ensures.0) in
+    let l : o.args.taken < be 4 o.args.log.now 0 = omega (arith, c.before.if-taken-count.true, c.before.before.count.ensures.0) in
     rw (lt-ltb _ _ l, c.entry.ensures)
 
-returns-2 : tie.Need-returns-2
+returns-2 : tie.Need-returns
 returns-2 c = let o = c.before.before.before.before in
-    let l : be 4 o.args.log.now 0 ≤ o.args.taken = omega (arith, c.if1.false, c.before.count.ensures.0) in
+    let l : be 4 o.args.log.now 0 ≤ o.args.taken = omega (arith, c.if-taken-count.false, c.before.count.ensures.0) in
     rw (le-ltb _ _ l)
 
 pub next_first_spec : {M : Type 1} → statement M

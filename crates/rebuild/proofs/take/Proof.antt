@@ -27,9 +27,9 @@ next c =
     record { there = n.0; begun = n.1; inside = p.0.2.inside _ (omega arith) n.0; room = omega (arith, n.0, f.few) }
 
 entry-requires : tie.Need-entry-requires
-entry-requires c κs = let o = c.before.before.before.before in let n = next o in (o.requires.0.0, omega (arith, n.room), n.inside)
+entry-requires c κs = let o = c.before.before.before in let n = next o in (o.requires.0.0, omega (arith, n.room), n.inside)
 
-upto-age-requires : tie.Need-upto-age-requires
+upto-age-requires : tie.Need-upto_age-at-requires
 upto-age-requires c κs =
     let o = c.before.before.before.before.before in
     let n = next o in
@@ -37,16 +37,16 @@ upto-age-requires c κs =
     let x = valid-exact _ (valid-at _ (place o.args.order.now o.args.w.taken) n.inside (log_facts _ o.requires.0.0).good) in
     ((o.requires.0.0, omega (arith, n.room, v.few), omega (arith, n.room, v.few), v.rising), (v.inside, rw c.entry.ensures x))
 
-shared-slice-read-insert : tie.Need-shared-slice-read-insert
+shared-slice-read-insert : tie.Need-bounds-order-next
 shared-slice-read-insert c = let n = next c.before.before.before.before.before.before.before.before in omega (arith, n.room)
 
 insert-requires : tie.Need-insert-requires
-insert-requires c κs = let o = c.before.before.before.before.before.before.before.before in let n = next o in (c.before.before.upto-age.ensures.most, omega (arith, n.room, o.requires.1.1.few))
+insert-requires c κs = let o = c.before.before.before.before.before.before.before.before in let n = next o in (c.before.before.upto_age-at.ensures.most, omega (arith, n.room, o.requires.1.1.few))
 
 returns : tie.Need-returns
 returns c = let o = c.before.before.before.before.before.before.before.before.before.before.before.before in
     let n = next o in
-    (taken_in _ _ _ _ _ _ _ o.requires.1.1 n.there n.begun n.inside (rw (← c.before.before.before.before.before.before.before.entry.ensures) c.before.before.before.before.before.before.upto-age.ensures) c.before.before.before.insert.ensures, omega arith)
+    (taken_in _ _ _ _ _ _ _ o.requires.1.1 n.there n.begun n.inside (rw (← c.before.before.before.before.before.before.before.entry.ensures) c.before.before.before.before.before.before.upto_age-at.ensures) c.before.before.before.insert.ensures, omega arith)
 
 pub take_spec : {M : Type 1} → statement M
 take_spec = tie.close (tie.spec entry-requires upto-age-requires (λ c. omega (arith, (next c.before.before.before.before.before.before.before).room)) shared-slice-read-insert insert-requires (λ c. omega (arith, (next c.before.before.before.before.before.before.before.before.before.before.before).room)) (λ c. omega (arith, (next c.before.before.before.before.before.before.before.before.before.before.before.before).room, c.before.before.before.before.before.before.before.before.before.before.before.before.requires.1.1.few)) (λ c. search rules) returns)

@@ -7,7 +7,7 @@ use Rattle.runbytes.proofs.age_at.Tie as tie
 
 returns : tie.Need-returns
 unfolding run_at fields
-returns c = rw (c.before.counter_at.ensures.0, c.before.before.place.ensures, c.pass-at.ensures.0)
+returns c = rw (c.before.counter_at.ensures.0, c.before.before.place.ensures, c.pass_at.ensures.0)
 
 pub age_at_spec : {M : Type 1} → statement M
 age_at_spec = tie.close (tie.spec (λ c κs. search rules) (λ c. search rules) (λ c κs. search rules) (λ c κs. search rules) returns)

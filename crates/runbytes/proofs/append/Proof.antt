@@ -8,7 +8,7 @@ returns : tie.Need-returns
 unfolding appended
 returns c =
     let p = c.before.before.before.before.before.before in
-    rw (c.before.before.put_count.ensures, p.put-run.ensures, p.before.before.count.ensures.0)
+    rw (c.before.before.put_count.ensures, p.put_run.ensures, p.before.before.count-n.ensures.0)
 
 pub append_spec : {M : Type 1} → statement M
 append_spec = tie.close (tie.spec (search rules) (search rules) (search rules) (search rules) (search rules) returns)

@@ -8,7 +8,7 @@ use Rattle.runbytes.proofs.first_at.Tie as tie
 
 returns : tie.Need-returns
 unfolding run_at fields
-returns c = rw (c.u64-at.ensures.0, c.before.place.ensures, add-zero)
+returns c = rw (c.u64_at.ensures.0, c.before.place.ensures, add-zero)
 
 pub first_at_spec : {M : Type 1} → statement M
 first_at_spec = tie.close (tie.spec (λ c κs. search rules) (λ c κs. search rules) returns)

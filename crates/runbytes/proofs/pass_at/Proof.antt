@@ -8,7 +8,7 @@ use Rattle.runbytes.proofs.pass_at.Tie as tie
 
 returns : tie.Need-returns
 unfolding run_at fields
-returns c = (rw (c.u32-at.ensures.0, c.before.place.ensures), omega (arith, c.u32-at.ensures.1))
+returns c = (rw (c.u32_at.ensures.0, c.before.place.ensures), omega (arith, c.u32_at.ensures.1))
 
 pub pass_at_spec : {M : Type 1} → statement M
 pass_at_spec = tie.close (tie.spec (λ c κs. search rules) (λ c. search rules) (λ c κs. search rules) returns)

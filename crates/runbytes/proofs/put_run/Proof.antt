@@ -12,7 +12,7 @@ returns c =
     let c3 = c4.before.before.before.before in
     let c2 = c3.before.before.before.before in
     let c1 = c2.before.before.before.before in
-    rw (c4.put-u32.ensures, c3.put-counter.ensures, c2.put-u642.ensures, c1.put-u64.ensures, c1.before.before.place.ensures, add-zero)
+    rw (c4.put_u32.ensures, c3.put_counter.ensures, c2.put_u64-2.ensures, c1.put_u64.ensures, c1.before.before.place-at.ensures, add-zero)
 
 pub put_run_spec : {M : Type 1} → statement M
 put_run_spec = tie.close (tie.spec (λ c κs. search rules) (search rules) (search rules) (search rules) (search rules) (search rules) (search rules) (search rules) (search rules) returns)

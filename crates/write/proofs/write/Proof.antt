@@ -9,28 +9,28 @@ use Rattle.write.proofs.Outcome.{write-refused, write-unrefused, write-accepted}
 use Rattle.write.proofs.write.Statement.{statement}
 use Rattle.write.proofs.write.Tie as tie
 
-returns : tie.Need-returns
+returns : tie.Need-returns-then-r-ne0
 returns c =
     let a = c.before.before.before.before.before.args in
-    write-refused a.map.now (piece a.first a.bytes.now a.age.number.0 a.age.pass.0) a.image.now _ c.before.refusal.ensures c.if1.true
+    write-refused a.map.now (piece a.first a.bytes.now a.age.number.0 a.age.pass.0) a.image.now _ c.before.refusal-r.ensures c.if-r-ne0.true
 
-returns-2 : tie.Need-returns-2
+returns-2 : tie.Need-returns
 returns-2 c =
     let t = c.before.before.before.before in
     let a = t.before.before.before.before.before.args in
-    write-accepted a.map.now (piece a.first a.bytes.now a.age.number.0 a.age.pass.0) a.image.now _ t.before.refusal.ensures t.if1.false _ _
+    write-accepted a.map.now (piece a.first a.bytes.now a.age.number.0 a.age.pass.0) a.image.now _ t.before.refusal-r.ensures t.if-r-ne0.false _ _
     (add-sub_cancel_left a.first (length a.bytes.now)) c.before.before.store.ensures
 
-add-end : tie.Need-overflow-add-end
+add-end : tie.Need-overflow_add-end
 add-end c =
     let a = c.before.before.before.before.before.args in
-    let f = write-unrefused a.map.now (piece a.first a.bytes.now a.age.number.0 a.age.pass.0) a.image.now _ c.before.refusal.ensures c.if1.false in
+    let f = write-unrefused a.map.now (piece a.first a.bytes.now a.age.number.0 a.age.pass.0) a.image.now _ c.before.refusal-r.ensures c.if-r-ne0.false in
     omega arith
 
-part-store-end : tie.Need-slice-bounds-store-end
+part-store-end : tie.Need-slice_bounds-store-end
 part-store-end c =
     let a = c.before.before.before.before.before.args in
-    let f = write-unrefused a.map.now (piece a.first a.bytes.now a.age.number.0 a.age.pass.0) a.image.now _ c.before.refusal.ensures c.if1.false in
+    let f = write-unrefused a.map.now (piece a.first a.bytes.now a.age.number.0 a.age.pass.0) a.image.now _ c.before.refusal-r.ensures c.if-r-ne0.false in
     omega arith
 
 store-requires : tie.Need-store-requires
@@ -38,7 +38,7 @@ store-requires c κs =
     let t = c.before in
     let a = t.before.before.before.before.before.args in
     let p = piece a.first a.bytes.now a.age.number.0 a.age.pass.0 in
-    let f = write-unrefused a.map.now p a.image.now _ t.before.refusal.ensures t.if1.false in
+    let f = write-unrefused a.map.now p a.image.now _ t.before.refusal-r.ensures t.if-r-ne0.false in
     (f.mapped, numbered-pos (extent_of p) f.numbered, numbered-exact (extent_of p) f.numbered, simp (length-take, length-drop) (omega arith))
 
 pub write_spec : {M : Type 1} → statement M
