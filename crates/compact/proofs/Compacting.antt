@@ -2,11 +2,11 @@
 use Prim.Native.Nat.{ℕ, ◌-◌, ◌≤◌, ◌<◌}
 use native.Mathlib.Omega.{arith}
 use mathlib.Core.Path.{◌≡◌, sym, ap, subst, ◌∙◌}
-use mathlib.Core.Bool.{Bool, true, false, not}
+use mathlib.Core.Bool.{Bool, true, false}
 use mathlib.Core.List.{List, map, ◌++◌}
 use lib.ListN.{length, take, drop, replicate, length-replicate, length-drop, length-map, replicate-append-replicate}
 use lib.Seq.{take-length}
-use borrow.Author.Tests.{eq-eqb, ne_eqb, lt-ltb, le-ltb, not-false}
+use borrow.Author.Tests.{eq-eqb, ne_eqb, lt-ltb, le-ltb}
 use Rattle.common.specs.Counters.{width}
 use Rattle.common.specs.Cleared.{cleared}
 use Rattle.common.proofs.Blank.{cleared-behind}
@@ -69,14 +69,14 @@ module _ (l n : List ℕ) where
   short-13 h = refused 13 (λ z. omega arith) (rw (ne_eqb (length n) (log_size width) h))
 
   module _ (fits : length n ≡ log_size width) (b : Bool) (e : b ≡ sound_log_bytes l) where
-    pub unsound-13 : not b ≡ true → Compacts l n 13 n
+    pub unsound-13 : b ≡ false → Compacts l n 13 n
     unfolding compact_answer
     unsound-13 h = refused 13 (λ z. omega arith) (rw (eq-eqb (length n) (log_size width) fits, ← e, h))
 
     -- otherwise the map is drawn over zeros, and stands ready
-    pub ready : not b ≡ false → (z s : List ℕ) (k : ℕ) → z ≡ replicate (map_size width) 0 → length s ≡ map_size width → Stored (map_of (runs_of width l)) z s k → Ready l n s k
+    pub ready : b ≡ true → (z s : List ℕ) (k : ℕ) → z ≡ replicate (map_size width) 0 → length s ≡ map_size width → Stored (map_of (runs_of width l)) z s k → Ready l n s k
     ready good z s k blank long d =
-        let h : sound_log_bytes l ≡ true = sym e ∙ not-false b good in
+        let h : sound_log_bytes l ≡ true = sym e ∙ good in
         record {
           old-long = (log-bytes l h).long;
           new-long = fits;

@@ -15,7 +15,7 @@ fn put_down(old: &[u8], new: &mut [u8], drawn: &[u8], k: usize) -> u64
     if runbytes::MAX_RUNS < k {
         return 16;
     }
-    bytes::copy(drawn, new);
+    new[0..runbytes::MAP_SIZE].copy_from_slice(drawn);
     common::clear(new, runbytes::MAP_SIZE);
     runbytes::put_count(new, k);
     0
