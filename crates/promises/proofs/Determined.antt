@@ -2,12 +2,13 @@
 -- Note, write, restart and compaction: their contracts are equations.
 use Prim.Native.Nat.{ℕ}
 use mathlib.Core.Bool.{Bool, true, false, cond}
-use mathlib.Core.List.{List, ◌++◌}
+use mathlib.Core.List.{List, ◌∷◌, ◌++◌}
 use mathlib.Core.Logic.{inl, inr}
 use mathlib.Core.Path.{◌≡◌, refl, sym, ap, subst, ◌∙◌}
 use lib.Dec.{T, eqb}
 use lib.ListN.{length}
 use borrow.Author.Tests.{ne_eqb}
+use Rattle.common.specs.Tests.{any}
 use Rattle.common.specs.Counters.{width}
 use Rattle.common.proofs.Bools.{by_cond, cond-true, cond-false}
 use Rattle.xdr.specs.Be.{Bytes}
@@ -32,7 +33,7 @@ use Rattle.note.specs.Note.{note_answer, note_map, note_log}
 use Rattle.write.specs.Write.{write_answer, write_image}
 use Rattle.restart.specs.Restart.{restart_answer, restart_map}
 use Rattle.compact.specs.Compact.{compact_answer, compact_log}
-use Rattle.promises.specs.Demand1.{Judged, Served, ListServed, OfMessage, OfList, OfNote, OfWrite, OfRestart, OfCompact}
+use Rattle.promises.specs.Demand1.{numbers, entry_of, Judged, Served, ListServed, OfMessage, OfList, OfNote, OfWrite, OfRestart, OfCompact}
 use Rattle.promises.proofs.Outcomes.{judged, Alone, outcome-hit, outcome-alone, outcome-sound, outcome-listed}
 use Rattle.promises.proofs.Lists.{list_hit, list-alone, list-leaves-sound, list-listed, items_stay}
 use Rattle.promises.proofs.StripeRefusals.{note-listed, write-listed, restart-listed, compact-listed, note-refused, write-refused, restart-refused, compact-refused}
@@ -104,7 +105,7 @@ of-message m t b h =
       some = left o t b;
       meets = left_meets o t b (outcome-sound m t b) h;
       only = one o t b;
-      listed = λ x p. rw (number o t b x p) (outcome-listed m t b);
+      listed = λ x p. subst (λ (n : ℕ). T (any (eqb n) (0 ∷ numbers (entry_of m)))) (sym (number o t b x p)) (outcome-listed m t b);
       judged = λ x p. subst (Judged (entry_rules t b ++ rules (table_of width t) m)) (sym (number o t b x p ∙ outcome-hit m t b)) (judged (entry_rules t b ++ rules (table_of width t) m));
       unchanged = alone o t b (outcome-alone m t b);
     }

@@ -4,7 +4,7 @@ use Prim.Native.Nat.{ℕ}
 use mathlib.Core.Bool.{Bool, true, false, not, cond}
 use mathlib.Core.List.{List, [], ◌∷◌, ◌++◌}
 use mathlib.Core.Logic.{◌⊎◌, inl, inr}
-use mathlib.Core.Path.{◌≡◌, refl, sym}
+use mathlib.Core.Path.{◌≡◌, refl, sym, subst}
 use lib.Dec.{T, eqb, ltb, eqb→eq}
 use lib.ListN.{length}
 use Rattle.common.specs.Counters.{width}
@@ -118,4 +118,6 @@ listed_in (Release c h) X a b = go a b (ltb max_client c) (not (any (λ r. eqb (
     go false false false false false = tt
 
 pub outcome-listed : (m : Message) (t b : List ℕ) → T (any (eqb (outcome m t b).refusal) (0 ∷ numbers (entry_of m)))
-outcome-listed m t b = rw (outcome-hit m t b) (listed_in m (table_of width t) (ltb (length b) (events_size width)) (not (sound_table_bytes t)))
+outcome-listed m t b =
+    subst (λ (n : ℕ). T (any (eqb n) (0 ∷ numbers (entry_of m)))) (sym (outcome-hit m t b))
+    (listed_in m (table_of width t) (ltb (length b) (events_size width)) (not (sound_table_bytes t)))

@@ -142,6 +142,7 @@ is-map mp log map e M = (subst (λ (x : Map). IsMap x log) e M).1
 -- Pieces that are among others say no more than these
 says-one : (q : Piece) (ps : List Piece) (b : ℕ) → Among q ps → over (place_of q) b ≤ owner (map place_of ps) b
 unfolding owner
+says-one q [] b m = absurd m
 says-one q (p ∷ ps) b (inl e) = subst (λ (x : Piece). over (place_of q) b ≤ max (over (place_of x) b) (owner (map place_of ps) b)) e (omega arith)
 says-one q (p ∷ ps) b (inr m) = omega (arith, says-one q ps b m)
 
