@@ -9,7 +9,6 @@ use lib.Dec.{eqb, ltb}
 use lib.ListN.{length, get_or, replicate, length-replicate}
 use borrow.Author.Tests.{eqb-true, eq-eqb, lt-ltb}
 use Rattle.common.specs.Counters.{width}
-use Rattle.common.proofs.Bools.{by_cond}
 use Rattle.xdr.specs.Be.{put_be}
 use Rattle.xdr.specs.Array.{put_array, put_elements}
 use Rattle.xdr.proofs.Numbers.{put-be}

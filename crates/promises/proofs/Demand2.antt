@@ -1,6 +1,6 @@
 -- Demand 2: a session of the entries is one of the rules (Sessions), and the rules' theorems speak of each call. New here: the events' array decodes
 -- to the rules' events, which fit their fields.
-use Prim.Native.Nat.{ℕ, ◌+◌, ◌≤◌, ◌<◌}
+use Prim.Native.Nat.{ℕ, ◌≤◌, ◌<◌}
 use native.Mathlib.Omega.{arith}
 use mathlib.Core.Bool.{Bool, true, false, not, cond}
 use mathlib.Core.List.{List, [], ◌∷◌, ◌++◌, map}
@@ -23,9 +23,9 @@ use Rattle.table.proofs.Zeros.{bytes-sound, zeros-empty, zeros-sound}
 use Rattle.locks.specs.declared.Item.{Item}
 use Rattle.locks.specs.declared.Message.{Message}
 use Rattle.locks.specs.declared.Message.TheVariants.{Request, Acknowledge, Downgrade, Release}
-use Rattle.locks.specs.Settle.{Event, settle}
+use Rattle.locks.specs.Settle.{Event}
 use Rattle.locks.specs.Refusals.{refusal}
-use Rattle.locks.specs.Serve.{Outcome, change, answered, accepted, refused, serve}
+use Rattle.locks.specs.Serve.{Outcome, serve}
 use Rattle.locks.specs.Events.{event_layout, event_fields, events_size, events_over}
 use Rattle.locks.specs.Session.{single, table_after, events, numbers}
 use Rattle.locks.specs.List.{max_items, item_at, request_of, answered_item, serve_list, max_list_events, list_events_size}

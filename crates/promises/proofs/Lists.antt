@@ -1,8 +1,8 @@
 -- The outcome of a list, whatever the bytes: its number is the first hit of 1, 2 and 19, a refused one is the number alone, an accepted one leaves a
 -- sound table; and on sound bytes, with room for its events and at most 64 items, it is the rules' list.
 use Prim.Native.Nat.{ℕ, ◌≤◌, ◌<◌}
-use mathlib.Core.Bool.{Bool, true, false, not, cond}
-use mathlib.Core.List.{List, [], ◌∷◌}
+use mathlib.Core.Bool.{Bool, true, false, cond}
+use mathlib.Core.List.{List, ◌∷◌}
 use mathlib.Core.Logic.{inl, inr}
 use mathlib.Core.Path.{◌≡◌, refl, sym}
 use lib.Dec.{T, eqb, eqb→eq}

@@ -9,7 +9,7 @@ use lib.Dec.{T, eqb, ltb, eqb→eq}
 use lib.ListN.{length}
 use Rattle.common.specs.Counters.{width}
 use Rattle.common.specs.Refusals.{Rule, rule, first_hit}
-use Rattle.common.specs.Tests.{any, all}
+use Rattle.common.specs.Tests.{any}
 use Rattle.common.proofs.Bools.{and_i}
 use Rattle.common.proofs.Refusals.{listed}
 use Rattle.table.specs.Table.{Table, handle_of, max_client}

@@ -1,16 +1,15 @@
 -- A piece that is noted or written has a number and a pass that refusal 15 lets by, and of such pieces the age says the pair.
-use Prim.Native.Nat.{ℕ, ◌≤◌, ◌<◌}
+use Prim.Native.Nat.{◌≤◌, ◌<◌}
 use native.Mathlib.Omega.{arith}
 use mathlib.Core.Path.{◌≡◌, refl, sym, subst}
 use mathlib.Core.Logic.{◌⊎◌, inl, inr, ⊎_elim}
 use mathlib.Core.Bool.{Bool, true, false, ◌&&◌, cond}
 use mathlib.Core.List.{List, [], ◌∷◌, ◌++◌}
-use lib.Dec.{eqb}
 use lib.ListN.{length}
 use borrow.Author.Tests.{eqb-true}
 use Rattle.common.specs.Counters.{width}
 use Rattle.common.proofs.Bools.{and_right, never}
-use Rattle.common.proofs.Order.{below, same}
+use Rattle.common.proofs.Order.{below}
 use Rattle.runs.specs.Ages.{highest_pass, value_of}
 use Rattle.runs.specs.Bytes.{runs_of, sound_map_bytes, sound_log_bytes}
 use Rattle.runs.proofs.Ages.{sane-is}

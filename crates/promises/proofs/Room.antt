@@ -29,7 +29,7 @@ use Rattle.stripe.specs.Refusals.{misplaced, misnumbered}
 use Rattle.stripe.proofs.Accepted.{CompactFacts, compact-facts, facts-compact}
 use Rattle.note.specs.Note.{note_answer}
 use Rattle.restart.specs.Restart.{restart_answer, restart_map}
-use Rattle.compact.specs.Compact.{compact_answer, compact_log, Compacts}
+use Rattle.compact.specs.Compact.{compact_answer, compact_log}
 use Rattle.promises.specs.Run.{Piece, extent_of, place_of, Map, live, Stripe, begin, Step, next, after, notes, noted, Write, writes, turns}
 use Rattle.promises.specs.Among.{Among}
 use Rattle.promises.specs.Room.{Compacted, Fits, Room}
