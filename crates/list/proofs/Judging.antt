@@ -3,8 +3,8 @@ use Prim.Native.Nat.{ℕ, ◌≤◌, ◌<◌}
 use native.Mathlib.Omega.{arith}
 use mathlib.Core.Bool.{Bool, true, false, not}
 use mathlib.Core.List.{List}
-use mathlib.Core.Path.{◌≡◌, refl, subst}
-use lib.Dec.{T, eqb, leb, eqb→eq, leb→le, nltb→le}
+use mathlib.Core.Path.{◌≡◌, refl}
+use lib.Dec.{T, leb, leb→le, nltb→le}
 use lib.ListN.{length}
 use borrow.Author.Tests.{lt-ltb, le-ltb, ne_eqb}
 use Rattle.common.specs.Counters.{width}
@@ -58,13 +58,6 @@ passed xs t b z =
     go : (x : Bool) → x ≡ sound_table_bytes t → T x → Good (count_of t) t
     go true e s = sound-good t true e refl
     go false e s = absurd s
-
--- what the code's test of the refusal says
-pub some-refusal : (n : ℕ) → T (not (eqb n 0)) → n ≡ 0 → ⊥
-some-refusal n t e = subst (λ (m : ℕ). T (not (eqb m 0))) e t
-
-pub no-refusal : (n : ℕ) → T (not (not (eqb n 0))) → n ≡ 0
-no-refusal n t = eqb→eq n 0 (undo (eqb n 0) t)
 
 -- a refused list changes nothing
 pub list-refused : (xs : List Item) (t b : List ℕ) (n : ℕ) → n ≡ list_refusal xs t b → (n ≡ 0 → ⊥)

@@ -1,5 +1,5 @@
 // A list of requests in a lent slice of descriptions: each item is served as a single request, and its answer is stored in it. The functions
-// over the slice are thin, and their proofs walk them.
+// over the slice are thin: they read and store an item, and count.
 #![tactic(auto)]
 
 ghost use Rattle.std.specs.Prelude.{◌≡◌, ◌+◌, ◌<◌, length};
