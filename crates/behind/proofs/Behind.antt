@@ -1,12 +1,12 @@
 -- Refusal 18, run by run: a byte that is left behind is not older, and one that no run leaves behind no later run does.
 use Prim.Native.Nat.{ℕ, zero, suc, ◌+◌, ◌-◌, ◌≤◌, ◌<◌}
-use mathlib.Core.Path.{◌≡◌, refl, sym, ◌∙◌, ap, subst}
+use mathlib.Core.Path.{◌≡◌, refl, ◌∙◌, ap, subst}
 use mathlib.Core.Logic.{⊎_elim}
-use mathlib.Core.Bool.{Bool, true, false, ◌||◌}
+use mathlib.Core.Bool.{false, ◌||◌}
 use mathlib.Core.List.{List, [], ◌∷◌}
 use native.Mathlib.Omega.{arith}
 use lib.Dec.{ltb, leb}
-use borrow.Author.Tests.{ltb-true, ltb-false, lt-ltb, le-ltb, le-leb, lt-leb}
+use borrow.Author.Tests.{lt-ltb, le-ltb, le-leb, lt-leb}
 use Rattle.common.specs.Ranges.{within}
 use Rattle.common.proofs.Bools.{and-false}
 use Rattle.common.proofs.Order.{below}
@@ -34,13 +34,6 @@ module _ (r : Run) (age b : ℕ) where
   pub onward-in : r.first ≤ b → b ≤ r.last → age ≤ age_of r → r.last + 1 ≡ onward r age b
   unfolding onward
   onward-in u v w = rw (le-leb r.first b u, le-leb b r.last v, le-leb age (age_of r) w)
-
-  -- the same by what a test of the ages answers
-  pub onward-older : (s : Bool) → s ≡ ltb (age_of r) age → s ≡ true → b ≡ onward r age b
-  onward-older s d t = onward-under (ltb-true _ _ (sym d ∙ t))
-
-  pub onward-past : (s : Bool) → r.first ≤ b → b ≤ r.last → s ≡ ltb (age_of r) age → s ≡ false → r.last + 1 ≡ onward r age b
-  onward-past s u v d t = onward-in u v (ltb-false _ _ (sym d ∙ t))
 
   by-onward : (P : ℕ → Type 0)
       → (r.first ≤ b → b ≤ r.last → age ≤ age_of r → P (r.last + 1)) → (r.first ≤ b → b ≤ r.last → age_of r < age → P b) → (b < r.first → P b) → (r.last < b → P b)

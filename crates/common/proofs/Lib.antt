@@ -5,7 +5,6 @@ pub mod Order
 pub mod Refusals
 pub mod Rests
 pub mod Firsts
-pub mod Rows
 pub mod Scans
 pub mod Lone
 pub mod Partly

@@ -1,8 +1,8 @@
--- The outcome of a compaction by each answer: what `by_scratch` refuses with 13, and what `put_down` leaves.
+-- The outcome of a compaction by each answer: what is refused, and what is left where it is accepted.
 use Prim.Native.Nat.{ℕ, ◌-◌, ◌≤◌, ◌<◌}
 use native.Mathlib.Omega.{arith}
-use mathlib.Core.Path.{◌≡◌, sym, ap, subst, ◌∙◌}
-use mathlib.Core.Bool.{Bool, true, false}
+use mathlib.Core.Path.{◌≡◌, sym, ap, ◌∙◌}
+use mathlib.Core.Bool.{true, false}
 use mathlib.Core.List.{List, map, ◌++◌}
 use lib.ListN.{length, take, drop, replicate, length-replicate, length-drop, length-map, replicate-append-replicate}
 use lib.Seq.{take-length}
@@ -18,10 +18,8 @@ use Rattle.runs.specs.declared.Run.{Run}
 use Rattle.runs.specs.Map.{map_of}
 use Rattle.runs.specs.Sound.{max_runs}
 use Rattle.runs.specs.Bytes.{run_layout, run_fields, map_size, log_size, runs_of, sound_log_bytes, log_bytes}
-use Rattle.runs.proofs.LogBytes.{log-bytes}
 use Rattle.pen.specs.Drawing.{Stored}
 use Rattle.compact.specs.Compact.{compact_answer, compact_log, Compacts}
-use Rattle.compact.specs.Ready.{Ready}
 
 -- The runs of a map in front of zeros, and their count: the bytes of a log
 module _ (rs : List Run) (s : List ℕ) (k : ℕ) (d : Stored rs (replicate (map_size width) 0) s k) (h : k ≤ max_runs) where
@@ -68,33 +66,22 @@ module _ (l n : List ℕ) where
   unfolding compact_answer
   short-13 h = refused 13 (λ z. omega arith) (rw (ne_eqb (length n) (log_size width) h))
 
-  module _ (fits : length n ≡ log_size width) (b : Bool) (e : b ≡ sound_log_bytes l) where
-    pub unsound-13 : b ≡ false → Compacts l n 13 n
+  module _ (fits : length n ≡ log_size width) where
+    pub unsound-13 : sound_log_bytes l ≡ false → Compacts l n 13 n
     unfolding compact_answer
-    unsound-13 h = refused 13 (λ z. omega arith) (rw (eq-eqb (length n) (log_size width) fits, ← e, h))
+    unsound-13 h = refused 13 (λ z. omega arith) (rw (eq-eqb (length n) (log_size width) fits, h))
 
-    -- otherwise the map is drawn over zeros, and stands ready
-    pub ready : b ≡ true → (z s : List ℕ) (k : ℕ) → z ≡ replicate (map_size width) 0 → length s ≡ map_size width → Stored (map_of (runs_of width l)) z s k → Ready l n s k
-    ready good z s k blank long d =
-        let h : sound_log_bytes l ≡ true = sym e ∙ good in
-        record {
-          old-long = (log-bytes l h).long;
-          new-long = fits;
-          drawn-long = long;
-          sound = h;
-          runs = subst (λ (x : List ℕ). Stored (map_of (runs_of width l)) x s k) blank d;
-        }
+    -- otherwise the map is drawn over zeros
+    module _ (sound : sound_log_bytes l ≡ true) (s : List ℕ) (k : ℕ) (d : Stored (map_of (runs_of width l)) (replicate (map_size width) 0) s k) where
+      pub many-16 : max_runs < k → Compacts l n 16 n
+      unfolding compact_answer
+      many-16 h = refused 16 (λ z. omega arith) (rw (eq-eqb (length n) (log_size width) fits, sound, ← d.count, lt-ltb max_runs k h))
 
-  module _ (s : List ℕ) (k : ℕ) (R : Ready l n s k) where
-    pub many-16 : max_runs < k → Compacts l n 16 n
-    unfolding compact_answer
-    many-16 h = refused 16 (λ z. omega arith) (rw (eq-eqb (length n) (log_size width) R.new-long, R.sound, ← R.runs.count, lt-ltb max_runs k h))
-
-    -- what is drawn is copied, zeros come behind it, and the runs are counted
-    pub few-0 : k ≤ max_runs → (copied clear n' : List ℕ)
-        → copied ≡ take (length s) s ++ drop (length s) n → clear ≡ cleared (map_size width) copied → n' ≡ put_be 4 clear 0 k → Compacts l n 0 n'
-    unfolding compact_answer
-    few-0 h copied clear n' c z p =
-        accepted n'
-        (rw (eq-eqb (length n) (log_size width) R.new-long, R.sound, ← R.runs.count, le-ltb max_runs k h))
-        (p ∙ ap (λ (x : List ℕ). put_be 4 x 0 k) (z ∙ ap (cleared (map_size width)) c) ∙ filled (map_of (runs_of width l)) s k R.runs h n R.new-long)
+      -- what is drawn is copied, zeros come behind it, and the runs are counted
+      pub few-0 : k ≤ max_runs → (copied clear n' : List ℕ)
+          → copied ≡ take (length s) s ++ drop (length s) n → clear ≡ cleared (map_size width) copied → n' ≡ put_be 4 clear 0 k → Compacts l n 0 n'
+      unfolding compact_answer
+      few-0 h copied clear n' c z p =
+          accepted n'
+          (rw (eq-eqb (length n) (log_size width) fits, sound, ← d.count, le-ltb max_runs k h))
+          (p ∙ ap (λ (x : List ℕ). put_be 4 x 0 k) (z ∙ ap (cleared (map_size width)) c) ∙ filled (map_of (runs_of width l)) s k d h n fits)

@@ -1,2 +1,1 @@
 pub mod Compact
-pub mod Ready

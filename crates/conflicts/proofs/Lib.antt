@@ -1,3 +1,3 @@
 pub mod Tests
-pub mod Ignoring
+pub mod Asking
 pub mod Widths

@@ -1,56 +1,27 @@
 -- How far a request reaches: the last byte so far is cut by a record that conflicts up to it, and, cut by the records to come, it is the last byte
 -- cut by all of them.
-use Prim.Native.Nat.{ℕ, ◌+◌, ◌-◌, ◌≤◌, ◌<◌, min}
+use Prim.Native.Nat.{ℕ, zero, suc, ◌+◌, ◌-◌, min}
 use native.Mathlib.Omega.{arith}
-use mathlib.Core.Bool.{Bool, true, false, not, ◌&&◌, cond}
+use mathlib.Core.Bool.{Bool, true, false, cond}
 use mathlib.Core.List.{List, [], ◌∷◌}
 use mathlib.Core.Path.{◌≡◌, refl, sym, ap, ◌∙◌}
-use lib.Dec.{leb, eqb}
 use lib.ListN.{drop}
-use borrow.Author.Tests.{not-true, not-false, leb-true, leb-false}
+use denote.Param.Members.{Mut}
+use Rattle.std.specs.declared.ops.Range.{Range}
+use Rattle.std.specs.Iterator.{FoldsItems}
+use Rattle.std.specs.Fn.{Called}
+use Rattle.std.specs.List.{fold, range_with_len}
+use Rattle.std.proofs.iter.Yields.{nat_range_steps}
+use Rattle.std.proofs.lemmas.Iterator.{YieldsList-from_range}
+use Rattle.std.proofs.lemmas.Iterator.Consumers.{fold_from_yields_List}
 use Rattle.common.specs.Counters.{width}
 use Rattle.common.specs.Ranges.{eof}
-use Rattle.common.proofs.Bools.{never}
-use Rattle.modes.specs.Conflict.{conflict}
 use Rattle.table.specs.declared.Lock.{Lock}
 use Rattle.table.specs.Bytes.{locks_of}
 use Rattle.table.specs.Places.{lock_at, Shape}
-use Rattle.table.proofs.Records.{locks-from, locks-end}
-use Rattle.locks.specs.Conflicts.{other, against}
+use Rattle.table.proofs.Reading.{locks-from, locks-end}
 use Rattle.locks.specs.Settle.{ahead, widest}
 use Rattle.conflicts.specs.Parts.{cut_by}
-
--- a record conflicts up to l exactly where it is ahead and starts up to l
-against-is : (w r : Lock) (l : ℕ) → against w l r ≡ (ahead w r && leb r.first l)
-against-is w r l = go (other w r) (eqb w.stripe r.stripe) (leb w.first r.last) (leb r.first l) (conflict w.mode r.mode r.state)
-  where
-    swap : (a b : Bool) → (a && b) ≡ (b && a)
-    swap true true = refl
-    swap true false = refl
-    swap false true = refl
-    swap false false = refl
-
-    go : (o e a f c : Bool) → ((o && (e && (a && f))) && c) ≡ (((o && (e && a)) && c) && f)
-    go true true true f c = swap f c
-    go true true false f c = refl
-    go true false a f c = refl
-    go false e a f c = refl
-
--- so the last byte is cut by the records that conflict up to it
-module _ (b : Bool) (w r : Lock) (m : ℕ) (e : b ≡ against w m r) where
-  pub uncut : not b ≡ true → m ≡ cut_by w m r
-  uncut f = go (ahead w r) (leb r.first m) (leb-false r.first m) (sym (e ∙ against-is w r m) ∙ not-true b f)
-    where
-      go : (h s : Bool) → (s ≡ false → m < r.first) → (h && s) ≡ false → m ≡ cond h (min (r.first - 1) m) m
-      go true s k z = let l = k z in omega arith
-      go false s k z = refl
-
-  pub cut-to : (x y : ℕ) → not b ≡ false → x ≡ r.first → y ≡ x - 1 → y ≡ cut_by w m r
-  cut-to x y f p q = go (ahead w r) (leb r.first m) (leb-true r.first m) (sym (e ∙ against-is w r m) ∙ not-false b f)
-    where
-      go : (h s : Bool) → (s ≡ true → r.first ≤ m) → (h && s) ≡ true → y ≡ cond h (min (r.first - 1) m) m
-      go true s k z = let l = k z in omega arith
-      go false s k z = never z
 
 cut-first : (w : Lock) (k m : ℕ) (rs : List Lock) → min k (widest w m rs) ≡ widest w (min k m) rs
 unfolding widest
@@ -70,18 +41,16 @@ wider w r m rs = go (ahead w r)
     go true = cut-first w (r.first - 1) m rs
     go false = refl
 
--- m is w's last byte, cut by the first i of the n records
-abbrev pub Cutting : Lock → List ℕ → ℕ → ℕ → ℕ → Type 0
-Cutting w t n m i = (i ≤ n) × (widest w m (drop i (locks_of width t)) ≡ widest w eof (locks_of width t))
-
-module _ (n i : ℕ) (t : List ℕ) (w : Lock) (m : ℕ) (S : Shape n t) where
-  pub cut_on : (k : ℕ) → i < n → k ≡ cut_by w m (lock_at t i) → Cutting w t n m i → Cutting w t n k (i + 1)
-  cut_on k h f s = (
-    omega arith,
-    (rw f (sym (wider w (lock_at t i) m (drop (i + 1) (locks_of width t)))
-        ∙ ap (widest w m) (sym (locks-from t i (let c = S.count in omega arith))) ∙ s.1)),
-  )
-
-  pub cut-end : n ≤ i → Cutting w t n m i → m ≡ widest w eof (locks_of width t)
+module _ (n : ℕ) (t : List ℕ) (S : Shape n t) (w : Lock) where
+  cut-from : (d i m : ℕ) → i + d ≡ n → fold (λ k j. cut_by w k (lock_at t j)) m (range_with_len i d) ≡ widest w m (drop i (locks_of width t))
   unfolding widest
-  cut-end h s = ap (widest w m) (sym (locks-end t i (let c = S.count in omega arith))) ∙ s.1
+  cut-from zero i m e = sym (ap (widest w m) (locks-end t i (let c = S.count in omega arith)))
+  cut-from (suc d) i m e =
+      cut-from d (i + 1) (cut_by w m (lock_at t i)) (omega arith)
+      ∙ sym (wider w (lock_at t i) m (drop (i + 1) (locks_of width t)))
+      ∙ ap (widest w m) (sym (locks-from t i (let c = S.count in omega arith)))
+
+  pub reached : {F : Type 0} {g : Mut F (ℕ × (ℕ × Unit {0})) ℕ} (s : Range ℕ) (f : F) (r : ℕ)
+      → FoldsItems nat_range_steps g s f eof r → s ≡ record { start = 0; end = n }
+      → ((m j k : ℕ) (q : F) → Called g f (m, (j, tt)) k q → (q ≡ f) × (k ≡ cut_by w m (lock_at t j))) → r ≡ widest w eof (locks_of width t)
+  reached s f r d e k = fold_from_yields_List _ (λ m j. cut_by w m (lock_at t j)) eof r d (YieldsList-from_range 0 n n e (omega arith)) k ∙ cut-from n 0 eof (omega arith)

@@ -19,11 +19,11 @@ pub fn gil_request(
     ensures { Serves (Request client stripe mode first last false) table.old events.old result table.new events.new }
 {
     let m = Message::Request {
-        client: client,
-        stripe: stripe,
-        mode: mode,
-        first: first,
-        last: last,
+        client,
+        stripe,
+        mode,
+        first,
+        last,
         marked: false,
     };
     message::call(table, events, m)
@@ -33,31 +33,19 @@ pub fn gil_request(
 pub fn gil_acknowledge(table: &mut [u8], events: &mut [u8], client: u64, handle: u64) -> Answer
     ensures { Serves (Acknowledge client handle) table.old events.old result table.new events.new }
 {
-    let m = Message::Acknowledge {
-        client: client,
-        handle: handle,
-    };
-    message::call(table, events, m)
+    message::call(table, events, Message::Acknowledge { client, handle })
 }
 
 // Makes a canceling BW or PW lock an NBW lock.
 pub fn gil_downgrade(table: &mut [u8], events: &mut [u8], client: u64, handle: u64) -> Answer
     ensures { Serves (Downgrade client handle) table.old events.old result table.new events.new }
 {
-    let m = Message::Downgrade {
-        client: client,
-        handle: handle,
-    };
-    message::call(table, events, m)
+    message::call(table, events, Message::Downgrade { client, handle })
 }
 
 // Gives a lock back, or withdraws a waiting request.
 pub fn gil_release(table: &mut [u8], events: &mut [u8], client: u64, handle: u64) -> Answer
     ensures { Serves (Release client handle) table.old events.old result table.new events.new }
 {
-    let m = Message::Release {
-        client: client,
-        handle: handle,
-    };
-    message::call(table, events, m)
+    message::call(table, events, Message::Release { client, handle })
 }

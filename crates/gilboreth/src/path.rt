@@ -35,7 +35,7 @@ pub fn gil_note(
 {
     let age = age(number, pass);
     let e = Extent { first, len, age };
-    note::note(map, log, e, image)
+    common::answer(note::note(map, log, e, image))
 }
 
 // Stores the piece's bytes in the image where the map has the piece's number and pass, and answers the refusal or 0.
@@ -49,19 +49,19 @@ pub fn gil_write(
 ) -> u64
     ensures { Writes map.now (piece first bytes.now number pass) image.old result image.new }
 {
-    write::write(map, image, first, bytes, age(number, pass))
+    common::answer(write::write(map, image, first, bytes, age(number, pass)))
 }
 
 // Fills the map with the log's map.
 pub fn gil_restart(map: &mut [u8], log: &[u8]) -> u64
     ensures { Restarts map.old log.now result map.new }
 {
-    restart::restart(map, log)
+    common::answer(restart::restart(map, log))
 }
 
 // Fills a second log with the runs of the log's map.
 pub fn gil_compact(old: &[u8], new: &mut [u8]) -> u64
     ensures { Compacts old.now new.old result new.new }
 {
-    compact::compact(old, new)
+    common::answer(compact::compact(old, new))
 }

@@ -1,101 +1,93 @@
-// Judging a message on the bytes of a sound table: its refusal, or the record that it names and what that becomes. Nothing is changed.
+// Judging a message on a sound table: its refusal, or the record that it names and what that becomes. Nothing is changed.
 #![tactic(auto)]
 
-ghost use Rattle.std.specs.Prelude.{◌≡◌};
+ghost use Rattle.std.specs.Prelude.{◌≡◌, cond, Ok, Err};
 ghost use Rattle.common.specs.Counters.{width};
-ghost use Rattle.common.specs.Refusals.{first_hit};
+ghost use Rattle.common.specs.declared.Refusal.TheVariants.{State};
+ghost use Rattle.common.specs.Refusals.{first_hit, answer_of};
 ghost use Rattle.table.specs.Bytes.{locks_of, table_of};
-ghost use Rattle.table.specs.Places.{Shape, Good, First};
+ghost use Rattle.table.specs.Places.{Good};
 ghost use Rattle.locks.specs.Refusals.{request_rules};
-ghost use Rattle.judge.specs.Posts.{has, Finds, ready, becoming};
+ghost use Rattle.judge.specs.Posts.{FindsFirst, Finds, ready, becoming, asked_by};
 
-use common::{EOF, HIGHEST, Handle};
+use common::{EOF, HIGHEST, Handle, Refusal};
+use locks::Item;
 use modes::{ASKED, BW, CANCELING, NBW, PW};
-use table::{Lock, MAX_CLIENT, MAX_RECORDS, MAX_STRIPE};
+use table::{Lock, MAX_CLIENT, MAX_RECORDS, MAX_STRIPE, Table};
+
+// What a request asks for. A marked request's grant ends where it asked.
+#[derive(Clone, Copy)]
+pub struct Asked {
+    pub client: u64,
+    pub stripe: u64,
+    pub mode: u64,
+    pub first: u64,
+    pub last: u64,
+    pub marked: bool,
+}
+
+// An item of a list asks as a marked request does.
+impl From<Item> for Asked {
+    ghost from_gives = { λ x a. a ≡ asked_by x };
+
+    fn from(x: Item) -> Asked {
+        Asked {
+            client: x.client,
+            stripe: x.stripe,
+            mode: x.mode,
+            first: x.first,
+            last: x.last,
+            marked: true,
+        }
+    }
+}
 
 // Judges a request by 3 to 8.
-pub fn request_refusal(
-    t: &[u8],
-    n: usize,
-    client: u64,
-    stripe: u64,
-    mode: u64,
-    first: u64,
-    last: u64,
-) -> u64
-    requires { Shape n t.now }
-    ensures { result ≡ first_hit (request_rules (table_of width t.now) client stripe mode first last) }
+pub fn request_refusal(t: &Table<'_>, a: Asked) -> Result<(), Refusal>
+    ensures { answer_of result ≡ first_hit (request_rules (table_of width t.now.bytes.now) a.client a.stripe a.mode a.first a.last) }
 {
-    if MAX_CLIENT < client {
-        return 3;
+    if MAX_CLIENT < a.client {
+        return Err(Refusal::Client);
     }
-    if MAX_STRIPE < stripe {
-        return 4;
+    if MAX_STRIPE < a.stripe {
+        return Err(Refusal::Stripe);
     }
-    if !modes::known_mode(mode) {
-        return 5;
+    if !modes::known_mode(a.mode) {
+        return Err(Refusal::Mode);
     }
-    if !((first <= last) & (last <= EOF)) {
-        return 6;
+    if a.last < a.first || EOF < a.last {
+        return Err(Refusal::Range);
     }
-    if HIGHEST <= table::issued(t) {
-        return 7;
+    if HIGHEST <= t.records().issued() {
+        return Err(Refusal::Handles);
     }
-    if MAX_RECORDS <= n {
-        return 8;
+    if MAX_RECORDS <= t.n {
+        return Err(Refusal::Records);
     }
-    0
+    Ok(())
 }
 
 // Finds the place of the record with the handle h.
-pub fn find(t: &[u8], n: usize, h: Handle) -> usize
-    requires { Shape n t.now }
-    ensures { First (has h.0) n (locks_of width t.now) result }
+pub fn find(t: &Table<'_>, h: Handle) -> Option<usize>
+    ensures { FindsFirst t.now.n (locks_of width t.now.bytes.now) h.0 result }
 {
-    for i in 0..n {
-        if table::handle_at(t, i).0 == h.0 {
-            return i;
-        }
-    }
-    n
+    let records = t.records();
+    (0..t.n).find(|&i| records.handle(i) == h)
 }
 
-// What a client's message on a handle finds: its refusal by 3, 9 and 10, or 0 and the place of its record.
-#[derive(Clone, Copy)]
-pub struct Found {
-    pub refusal: u64,
-    pub place: usize,
-}
-
-// Finds the client's record with the handle.
-pub fn named(t: &[u8], n: usize, client: u64, handle: Handle) -> Found
-    requires { Good n t.now }
-    ensures { Finds n (table_of width t.now) client handle.0 result }
+// Finds the client's record with the handle, and refuses by 3, 9 and 10.
+pub fn named(t: &Table<'_>, client: u64, handle: Handle) -> Result<usize, Refusal>
+    requires { Good t.now.n t.now.bytes.now }
+    ensures { Finds t.now.n (table_of width t.now.bytes.now) client handle.0 result }
 {
     if MAX_CLIENT < client {
-        return Found {
-            refusal: 3,
-            place: 0,
-        };
+        return Err(Refusal::Client);
     }
-    let i = find(t, n, handle);
-    if n <= i {
-        return Found {
-            refusal: 9,
-            place: 0,
-        };
+    let i = find(t, handle).ok_or(Refusal::NoRecord)?;
+    if t.records().lock(i).client != client {
+        return Err(Refusal::OtherClient);
     }
-    let l = table::lock_at(t, i);
-    if l.client != client {
-        return Found {
-            refusal: 10,
-            place: 0,
-        };
-    }
-    Found {
-        refusal: 0,
-        place: i,
-    }
+    Ok(i)
 }
 
 // What a client's message makes of its record: an acknowledge makes an asked one canceling, a downgrade makes a canceling BW or PW one NBW.
@@ -105,22 +97,19 @@ pub enum Becomes {
     Nbw,
 }
 
-// Says whether 11 lets l become that.
-pub fn ready(l: Lock, to: Becomes) -> bool
-    ensures { result ≡ ready to l }
-{
-    match to {
-        Becomes::Canceling => l.state == ASKED,
-        Becomes::Nbw => (l.state == CANCELING) & ((BW <= l.mode) & (l.mode <= PW)),
-    }
-}
-
-// Makes of l what it becomes.
-pub fn becoming(l: Lock, to: Becomes) -> Lock
-    ensures { result ≡ becoming to l }
-{
-    match to {
-        Becomes::Canceling => table::remade(l, l.mode, CANCELING, l.number, l.last),
-        Becomes::Nbw => table::remade(l, NBW, l.state, l.number, l.last),
+impl Becomes {
+    // Makes of l what it becomes, where 11 lets it. It is a match and no closure of the caller's: what a message asks is said by the message (`asks`).
+    pub fn of(self, l: Lock) -> Result<Lock, Refusal>
+        ensures { result ≡ cond (ready self l) (Ok (becoming self l)) (Err State) }
+    {
+        match self {
+            Becomes::Canceling if l.state == ASKED => {
+                Ok(table::remade(l, l.mode, CANCELING, l.number, l.last))
+            }
+            Becomes::Nbw if l.state == CANCELING && (BW..=PW).contains(&l.mode) => {
+                Ok(table::remade(l, NBW, l.state, l.number, l.last))
+            }
+            _ => Err(Refusal::State),
+        }
     }
 }

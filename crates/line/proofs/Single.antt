@@ -9,14 +9,14 @@ use Rattle.common.proofs.Bools.{by_cond}
 use Rattle.locks.specs.declared.Message.{Message}
 use Rattle.locks.specs.declared.Message.TheVariants.{Acknowledge, Downgrade, Release}
 use Rattle.locks.specs.Session.{single}
-use Rattle.line.specs.declared.Read.TheVariants.{Bad, Good}
+use Rattle.std.specs.declared.option.Option.TheVariants.{Some, None}
 use Rattle.line.specs.Format.{right, read_on, numbers, read_fields, requesting, naming, by_letter, longest, read_line, Single}
 
 fields-single : (n : ℕ) (m : List ℕ → Message) (s : List ℕ) → T (single (m (numbers n (right 0 s)))) → Single (read_fields n m s)
 unfolding read_fields
 fields-single n m s t =
     let p = read_on n (right 0 s) in
-    by_cond Single (p.ok && leb (length p.rest) 0) (Good (m (numbers n (right 0 s)))) Bad (λ _. t) (λ _. tt)
+    by_cond Single (p.ok && leb (length p.rest) 0) (Some (m (numbers n (right 0 s)))) None (λ _. t) (λ _. tt)
 
 letter-single : (l : ℕ) (s : List ℕ) → Single (by_letter l s)
 unfolding by_letter
@@ -29,4 +29,4 @@ letter-single l s =
 pub read-single : (s : List ℕ) → Single (read_line s)
 unfolding read_line
 read-single [] = tt
-read-single (l ∷ s) = by_cond Single (ltb longest (length (l ∷ s))) Bad (by_letter l s) (λ _. tt) (λ _. letter-single l s)
+read-single (l ∷ s) = by_cond Single (ltb longest (length (l ∷ s))) None (by_letter l s) (λ _. tt) (λ _. letter-single l s)

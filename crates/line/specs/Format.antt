@@ -1,13 +1,12 @@
 -- "The line program": what one line says. `R,client,stripe,mode,first,last`, `A,client,handle`, `D,client,handle`, `F,client,handle`.
-use Rattle.std.specs.Prelude.{ℕ, zero, suc, ◌+◌, ◌*◌, ◌-◌, Bool, true, false, cond, ◌&&◌, List, [], ◌∷◌, length, get_or, T, ltb, leb, eqb}
+use Rattle.std.specs.Prelude.{ℕ, zero, suc, ◌+◌, ◌*◌, ◌-◌, Bool, true, false, cond, ◌&&◌, List, [], ◌∷◌, length, get_or, T, ltb, leb, eqb, Some, None}
 use Prim.Native.Char.{code}
 use Prim.Native.String.{String, [] as nothing, ◌∷◌ as ◌then◌}
+use Rattle.std.specs.declared.option.Option.{Option}
 use Rattle.common.specs.Ranges.{within}
 use Rattle.locks.specs.declared.Message.{Message}
 use Rattle.locks.specs.declared.Message.TheVariants.{Request, Acknowledge, Downgrade, Release}
 use Rattle.locks.specs.Session.{single}
-use Rattle.line.specs.declared.Read.{Read}
-use Rattle.line.specs.declared.Read.TheVariants.{Bad, Good}
 
 -- A text in bytes
 abbrev pub bytes : String → List ℕ
@@ -61,11 +60,11 @@ numbers zero p = []
 numbers (suc n) p = let a = read_field p.rest in a.value ∷ numbers n a
 
 -- The message, if all is right up to the end of the line
-abbrev pub ended : Reading → Message → Read
-ended p m = cond (p.ok && leb (length p.rest) 0) (Good m) Bad
+abbrev pub ended : Reading → Message → Option Message
+ended p m = cond (p.ok && leb (length p.rest) 0) (Some m) None
 
 -- A line of n fields, whose numbers make a message
-unfoldable pub read_fields : ℕ → (List ℕ → Message) → List ℕ → Read
+unfoldable pub read_fields : ℕ → (List ℕ → Message) → List ℕ → Option Message
 read_fields n m s = let p = right 0 s in ended (read_on n p) (m (numbers n p))
 
 abbrev pub requesting : List ℕ → Message
@@ -74,22 +73,22 @@ requesting ns = Request (get_or ns 0 0) (get_or ns 1 0) (get_or ns 2 0) (get_or 
 abbrev pub naming : (ℕ → ℕ → Message) → List ℕ → Message
 naming m ns = m (get_or ns 0 0) (get_or ns 1 0)
 
-unfoldable pub by_letter : ℕ → List ℕ → Read
+unfoldable pub by_letter : ℕ → List ℕ → Option Message
 by_letter l s =
     cond (eqb l (code "R")) (read_fields 5 requesting s)
     (cond (eqb l (code "A")) (read_fields 2 (naming Acknowledge) s)
     (cond (eqb l (code "D")) (read_fields 2 (naming Downgrade) s)
-    (cond (eqb l (code "F")) (read_fields 2 (naming Release) s) Bad)))
+    (cond (eqb l (code "F")) (read_fields 2 (naming Release) s) None)))
 
 -- "Any other line, blank or over 128 bytes before its break too", is bad
 abbrev pub longest : ℕ
 longest = 128
 
-unfoldable pub read_line : List ℕ → Read
-read_line [] = Bad
-read_line (l ∷ s) = cond (ltb longest (length (l ∷ s))) Bad (by_letter l s)
+unfoldable pub read_line : List ℕ → Option Message
+read_line [] = None
+read_line (l ∷ s) = cond (ltb longest (length (l ∷ s))) None (by_letter l s)
 
 -- What a line says comes by itself: its requests are unmarked
-abbrev pub Single : Read → Type 0
-Single Bad = Unit {0}
-Single (Good m) = T (single m)
+abbrev pub Single : Option Message → Type 0
+Single None = Unit {0}
+Single (Some m) = T (single m)

@@ -1,3 +1,3 @@
 pub mod Format
-pub mod Spots
+pub mod Fields
 pub mod Examples

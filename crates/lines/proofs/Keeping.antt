@@ -1,21 +1,23 @@
 -- What is kept of a line says what the line says: either it is the line, or both are too long, the CR of the break aside.
-use Prim.Native.Nat.{ℕ, ◌+◌, ◌-◌, ◌≤◌, ◌<◌}
+use Prim.Native.Nat.{ℕ, suc, ◌+◌, ◌-◌, ◌≤◌}
 use Prim.Native.Char.{code}
 use mathlib.Core.Path.{◌≡◌, refl, sym, ap, ◌∙◌}
-use mathlib.Core.Bool.{Bool, true, false, cond}
-use mathlib.Core.List.{List, [], ◌∷◌, ◌++◌}
+use mathlib.Core.Bool.{Bool, true, false, cond, ◌&&◌}
+use mathlib.Core.List.{List, [], ◌∷◌}
 use mathlib.Core.Logic.{inl, inr}
-use native.Mathlib.Numerals.{add-one}
 use native.Mathlib.Omega.{arith}
 use lib.Dec.{eqb}
-use lib.ListN.{length, get_or, take, set, length-append, length-take, length-set}
-use lib.Seq.{length-take-le, take-suc-set, take-take, get_or-take}
-use borrow.Author.Tests.{ne_eqb}
-use Rattle.line.specs.declared.Read.TheVariants.{Bad}
-use Rattle.line.specs.Format.{longest, read_line}
+use lib.Pointwise.{pointwise}
+use lib.ListN.{length, get_or, take, drop, length-take, drop_of_length-le}
+use lib.Seq.{drop-cons}
+use denote.Bor.{Bor}
+use Rattle.std.specs.Prelude.{Some, None, MatchOption}
+use Rattle.std.specs.Option.{unwrap_or}
+use Rattle.std.specs.declared.option.Option.{Option}
+use Rattle.line.specs.Format.{read_line}
 use Rattle.lines.specs.Lines.{bare}
 use Rattle.lines.specs.Buffers.{Keeps}
-use Rattle.line.proofs.Letters.{line-long, line-blank}
+use Rattle.line.proofs.Letters.{line-long}
 
 length-bare : (p : List ℕ) → length p ≤ length (bare p) + 1
 length-bare p = go (eqb (get_or p (length p - 1) 0) (code "\r"))
@@ -33,28 +35,24 @@ keeps-bare q p (inl e) = ap (λ (l : List ℕ). read_line (bare l)) e
 keeps-bare q p (inr h) =
     sym (line-long (bare q) (omega (arith, length-bare q))) ∙ line-long (bare p) (omega (arith, length-bare p))
 
--- the CR is the last of the kept bytes
-module _ (l : List ℕ) (n : ℕ) (h : n ≤ length l) (z : n ≡ 0 → ⊥) where
-  pub bare-cr : get_or l (n - 1) 0 ≡ code "\r" → take (n - 1) l ≡ bare (take n l)
-  bare-cr e =
-      let k : n - 1 < n = omega arith in
-      let j : n - 1 ≤ n = omega arith in
-      rw (length-take-le n l h, get_or-take n l (n - 1) 0 k, e, take-take (n - 1) n l j)
+-- the CR that is the last of some bytes is stripped
+last_at : (q : List ℕ) (n : ℕ) → n + 1 ≡ length q → pointwise eqb (drop n q) (code "\r" ∷ []) ≡ eqb (get_or q n 0) (code "\r")
+last_at q n h = rw (drop-cons q n 0 (omega arith), drop_of_length-le q {i = suc n} (omega arith)) (and-true (eqb (get_or q n 0) (code "\r")))
+  where
+    and-true : (x : Bool) → x && true ≡ x
+    and-true true = refl
+    and-true false = refl
 
-  pub bare-other : (get_or l (n - 1) 0 ≡ code "\r" → ⊥) → take n l ≡ bare (take n l)
-  bare-other e =
-      let k : n - 1 < n = omega arith in
-      rw (length-take-le n l h, get_or-take n l (n - 1) 0 k, ne_eqb (get_or l (n - 1) 0) (code "\r") e)
+last-is : (q : List ℕ) → pointwise eqb (drop (length q - 1) q) (code "\r" ∷ []) ≡ eqb (get_or q (length q - 1) 0) (code "\r")
+last-is [] = refl
+last-is (b ∷ s) = last_at (b ∷ s) (length (b ∷ s) - 1) (omega arith)
 
-pub bare-none : (l : List ℕ) (n : ℕ) → n ≡ 0 → Bad ≡ read_line (bare (take n l))
-bare-none l n h = rw h (line-blank [] refl)
+module _ (b : Bor (List ℕ)) where
+  abbrev last : Bool
+  last = pointwise eqb (drop (length b.now - 1) b.now) (code "\r" ∷ [])
 
--- one byte more
-module _ (l : List ℕ) (n b : ℕ) where
-  pub keeps-more : n < length l → (p : List ℕ) → Keeps (take n l) p → Keeps (take (n + 1) (set l n b)) (p ++ (b ∷ []))
-  keeps-more h p (inl e) = inl (rw (add-one, take-suc-set l n b h, e))
-  keeps-more h p (inr k) = inr (simp (length-take, length-set) (omega (arith, length-take n l)), simp length-append (omega arith))
-
-  pub keeps-full : longest + 2 ≤ length l → n ≤ length l → length l ≤ n → (p : List ℕ) → Keeps (take n l) p → Keeps (take n l) (p ++ (b ∷ []))
-  keeps-full m u h p (inl e) = let t = length-take-le n l u in inr (omega arith, simp length-append (omega (arith, ap length e)))
-  keeps-full m u h p (inr k) = inr (k.0, simp length-append (omega arith))
+  pub stripped : (r : Option (Bor (List ℕ)))
+      → MatchOption r (last ≡ false) (λ x. (last ≡ true) × (x.now ≡ take (length b.now - 1) b.now) × (length x.now + 1 ≡ length b.now))
+      → (unwrap_or r b).now ≡ bare b.now
+  stripped None h = rw (sym (last-is b.now) ∙ h) refl
+  stripped (Some x) h = rw (sym (last-is b.now) ∙ h.0) h.1

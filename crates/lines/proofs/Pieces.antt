@@ -1,13 +1,14 @@
 -- Piece after piece gives the lines of the whole input: a cut may fall anywhere, within a line or within its break.
-use Prim.Native.Nat.{ℕ, ◌+◌, ◌<◌}
+use Prim.Native.Nat.{ℕ, suc, ◌+◌, ◌<◌}
 use Prim.Native.Char.{code}
-use mathlib.Core.Path.{◌≡◌, refl, ap}
+use mathlib.Core.Path.{◌≡◌, refl, sym, ap, ◌∙◌}
 use mathlib.Core.Bool.{Bool, true, false, cond}
-use mathlib.Core.List.{List, [], ◌∷◌, ◌++◌, append-nil}
+use mathlib.Core.List.{List, [], ◌∷◌, ◌++◌, append-nil, append_assoc}
+use native.Mathlib.Omega.{arith}
 use native.Mathlib.Numerals.{add-one}
 use lib.Dec.{eqb}
-use lib.ListN.{length, get_or, take}
-use lib.Seq.{take-suc}
+use lib.ListN.{length, get_or, take, length-take}
+use lib.Seq.{take-suc, take_all, get_or-take}
 use borrow.Author.Tests.{ne_eqb}
 use Rattle.lines.specs.Lines.{bare, lines_from, lines_in, left}
 use Rattle.lines.specs.Buffers.{Keeps, Gathered}
@@ -56,35 +57,33 @@ left_join p (b ∷ s) t = go (eqb b (code "\n")) (left_join [] s t) (left_join (
     go true u v = u
     go false u v = v
 
--- no line ends in s behind p, and q is kept of the line so far
-pub record Within (p s q : List ℕ) : Type 0 where
-  pub none : lines_in p s ≡ []
-  pub keeps : Keeps q (left p s)
+-- no break stands in s
+abbrev pub Clear : List ℕ → Type 0
+Clear s = (k : ℕ) → k < length s → get_or s k 0 ≡ code "\n" → ⊥
 
-pub within_none : (p q : List ℕ) → Keeps q p → Within p [] q
+clear : (p s : List ℕ) → Clear s → (lines_in p s ≡ []) × (left p s ≡ p ++ s)
 unfolding lines_in left
-within_none p q k = record { none = refl; keeps = k }
+clear p [] h = (refl, sym (append-nil p))
+clear p (b ∷ s) h =
+    let R = clear (p ++ (b ∷ [])) s (λ k l. h (suc k) (omega arith)) in
+    rw (ne_eqb b (code "\n") (h 0 (omega arith))) (R.0, R.1 ∙ append_assoc p (b ∷ []) s)
 
-pub within_all : {p s q : List ℕ} → Within p s q → Gathered p s q false
-within_all {p} {s} w = record { line = left p s; keeps = w.keeps; ends = w.none; rest = refl }
+module _ (p s q : List ℕ) where
+  -- no line ends in s behind p, and q is kept of the line so far
+  pub gathered-part : Clear s → Keeps q (p ++ s) → Gathered p (take (length s) s) q false
+  gathered-part h k =
+      let R = clear p s h in
+      rw (take_all (length s) s (omega arith)) (record { line = p ++ s; keeps = k; ends = R.0; rest = R.1 })
 
--- one byte more of the piece s
-module _ (p s : List ℕ) (i : ℕ) (h : i < length s) {q : List ℕ} (w : Within p (take i s) q) where
-  pub within-byte : {l : List ℕ} → (get_or s i 0 ≡ code "\n" → ⊥) → Keeps l (left p (take i s) ++ (get_or s i 0 ∷ [])) → Within p (take (i + 1) s) l
+  -- a line ends with the break at i
+  pub gathered-line : (i : ℕ) → i < length s → get_or s i 0 ≡ code "\n" → ((k : ℕ) → k < i → get_or s k 0 ≡ code "\n" → ⊥) → Keeps q (p ++ take i s)
+      → Gathered p (take (i + 1) s) q true
   unfolding lines_in left
-  within-byte e k =
-      let b = get_or s i 0 in
+  gathered-line i l e h k =
+      let R = clear p (take i s) (λ j m f. let n : j < i = omega (arith, length-take i s) in h j n (sym (get_or-take i s j 0 n) ∙ f)) in
       record {
-        none = rw (add-one, take-suc s i 0 h, lines_join p (take i s) (b ∷ []), ne_eqb b (code "\n") e) (rw append-nil w.none);
-        keeps = rw (add-one, take-suc s i 0 h, left_join p (take i s) (b ∷ []), ne_eqb b (code "\n") e) k;
-      }
-
-  pub within-break : get_or s i 0 ≡ code "\n" → Gathered p (take (i + 1) s) q true
-  unfolding lines_in left
-  within-break e =
-      record {
-        line = left p (take i s);
-        keeps = w.keeps;
-        ends = rw (add-one, take-suc s i 0 h, lines_join p (take i s) (get_or s i 0 ∷ []), e, w.none);
-        rest = rw (add-one, take-suc s i 0 h, left_join p (take i s) (get_or s i 0 ∷ []), e);
+        line = p ++ take i s;
+        keeps = k;
+        ends = rw (add-one, take-suc s i 0 l, lines_join p (take i s) (get_or s i 0 ∷ []), e, R.0, R.1);
+        rest = rw (add-one, take-suc s i 0 l, left_join p (take i s) (get_or s i 0 ∷ []), e);
       }

@@ -1,32 +1,38 @@
 -- Where the loop over the items stands, as plain values: what is done, and that what is left decides as the whole. No word of memory.
 --     State        the place, the count of events, the items and bytes as they are, and the facts that hold there
---     begun, next, ended      the loop begins, goes on by a step, and ends.        item_room, end-room    what is written next has room
+--     begun, next, ended      the loop begins, goes on by an item, and ends.        item_room    the events of the next item have room
 use Prim.Native.Nat.{ℕ, suc, ◌+◌, ◌≤◌, ◌<◌}
 use native.Mathlib.Omega.{arith}
+use native.Mathlib.Nat.{zero-add}
 use native.Mathlib.Numerals.{add-one}
-use mathlib.Core.List.{List, [], ◌∷◌, ◌++◌, append-nil, append_assoc}
+use mathlib.Core.List.{List, [], ◌∷◌, ◌++◌, map, append-nil, append_assoc}
 use mathlib.Core.Path.{◌≡◌, refl, sym, ap, ap₂, subst, ◌∙◌}
-use lib.ListN.{length, take, drop, length-map, length-append, drop_of_length-le}
+use lib.ListN.{length, take, drop, set, length-set, length-map, length-append, drop_of_length-le}
 use lib.Seq.{take-suc-set, drop-set-lt, drop-cons, append_snoc, take_all}
-use Rattle.common.specs.Counters.{width}
+use Rattle.std.specs.Prelude.{Ok}
+use Rattle.common.specs.Counters.{handle, width}
 use Rattle.xdr.specs.Be.{put_be}
 use Rattle.xdr.specs.Array.{put_elements, put_array}
+use Rattle.xdr.proofs.Elements.{put-elements-length}
 use Rattle.table.specs.Table.{Table}
-use Rattle.table.specs.Bytes.{table_of}
-use Rattle.table.specs.Places.{count_of, Shape, Holds, Good}
-use Rattle.table.proofs.Records.{locks-length}
+use Rattle.table.specs.Bytes.{locks_of, table_of}
+use Rattle.table.specs.Places.{count_of, Shape, Good}
+use Rattle.table.proofs.Reading.{locks-length}
 use Rattle.locks.specs.declared.Item.{Item}
 use Rattle.locks.specs.Settle.{Event}
 use Rattle.locks.specs.Serve.{Outcome}
-use Rattle.locks.specs.Events.{event_fields, events_over, Room}
-use Rattle.locks.specs.List.{no_item, item_at, answered_item, Listed, before, serve_list, max_list_events}
+use Rattle.locks.specs.Events.{event_layout, event_fields, events_over, Room}
+use Rattle.locks.specs.List.{no_item, item_at, answered_item, Listed, before, serve_list}
 use Rattle.locks.proofs.Lists.{list-few}
 use Rattle.settle.specs.Posts.{put_events}
+use Rattle.settle.proofs.Written.{events-then}
+use Rattle.serve.specs.declared.Accepted.{Accepted}
 use Rattle.serve.specs.declared.Answer.{Answer}
+use Rattle.serve.specs.Posts.{answer_to}
 use Rattle.list.specs.Lists.{list_outcome, list_items, ServesList}
-use Rattle.list.specs.Posts.{outcome_of, Steps}
+use Rattle.list.specs.Posts.{outcome_of, ServesItem, Walks}
 use Rattle.list.proofs.Judging.{Passed}
-use Rattle.list.proofs.Stepping.{step-bytes, step-good}
+use Rattle.list.proofs.Serving.{own-count, item-good}
 
 -- the items that are done and their events, in front of what is left
 abbrev pub front : List Item → List Event → Listed → Listed
@@ -45,13 +51,13 @@ unfolding serve_list
 at_first t xs i l = rw (drop-cons xs i no_item l) refl
 
 -- one item on
-pub goes_on : (i k : ℕ) (xs : List Item) (t b : List ℕ) (r : ℕ) (ys : List Item) (u c : List ℕ) (es : List Event) → i < length xs → Steps i k xs t b r ys u c
-    → front (take (i + 1) ys) (es ++ (outcome_of t (item_at xs i)).events) (left u ys (i + 1)) ≡ front (take i xs) es (left t xs i)
-goes_on i k xs t b r ys u c es l S =
+pub goes_on : (i k : ℕ) (xs : List Item) (t b : List ℕ) (r : Item) (s : ℕ) (u c : List ℕ) (es : List Event) → i < length xs → ServesItem k (item_at xs i) t b r s u c
+    → front (take (i + 1) (set xs i r)) (es ++ (outcome_of t (item_at xs i)).events) (left u (set xs i r) (i + 1)) ≡ front (take i xs) es (left t xs i)
+goes_on i k xs t b r s u c es l S =
     let x : Item = item_at xs i in
     let o : Outcome = outcome_of t x in
     let y : Item = answered_item x o in
-    rw (S.items, S.table.says, add-one, take-suc-set xs i y l, drop-set-lt (suc i) xs i y (omega arith), at_first t xs i l)
+    rw (S.item, S.table.says, add-one, take-suc-set xs i y l, drop-set-lt (suc i) xs i y (omega arith), at_first t xs i l)
     (front-before (take i xs) es x o (serve_list o.table (drop (suc i) xs)))
 
 -- nothing is left
@@ -59,39 +65,31 @@ all_done : (i : ℕ) (xs : List Item) (t : List ℕ) (es : List Event) → lengt
 unfolding serve_list
 all_done i xs t es l = rw (take_all i xs l, drop_of_length-le xs l) (λ j. record { items = append-nil xs j; table = table_of width t; events = append-nil es j })
 
-module _ (xs₀ : List Item) (t₀ b₀ : List ℕ) where
+-- the items xs₀ are served on the table in t₀, behind k₀ events in b₀
+module _ (k₀ : ℕ) (xs₀ : List Item) (t₀ b₀ : List ℕ) where
   abbrev pub whole : Listed
   whole = serve_list (table_of width t₀) xs₀
 
   pub record State (i k : ℕ) (xs : List Item) (ts bs : List ℕ) : Type 0 where
     pub sent : List Event
-    pub start : Passed xs₀ t₀ b₀
-    pub most : length whole.events ≤ max_list_events
-    pub upto : i ≤ length xs₀
+    pub room : Room (k₀ + length whole.events) b₀
     pub same-xs : length xs ≡ length xs₀
-    pub same-ts : length ts ≡ length t₀
     pub same-bs : length bs ≡ length b₀
     pub good : Good (count_of ts) ts
-    pub count : k ≡ length sent
-    pub bytes : bs ≡ put_events b₀ 0 sent
+    pub count : k ≡ k₀ + length sent
+    pub bytes : bs ≡ put_events b₀ k₀ sent
     pub rest : front (take i xs) sent (left ts xs i) ≡ whole
 
-  pub none_yet : b₀ ≡ put_events b₀ 0 []
+  pub begun : (n : ℕ) → Good n t₀ → Room (k₀ + length whole.events) b₀ → State 0 k₀ xs₀ t₀ b₀
   unfolding put_elements
-  none_yet = refl
-
-  abbrev pub begun : Passed xs₀ t₀ b₀ → State 0 0 xs₀ t₀ b₀
-  begun P = record {
+  begun n G R = record {
     sent = [];
-    start = P;
-    most = list-few (table_of width t₀) xs₀ P.good.sounds;
-    upto = omega arith;
+    room = R;
     same-xs = refl;
-    same-ts = refl;
     same-bs = refl;
-    good = P.good;
-    count = refl;
-    bytes = none_yet;
+    good = record { shape = own-count n t₀ G.shape; sounds = G.sounds };
+    count = omega arith;
+    bytes = refl;
     rest = refl;
   }
 
@@ -100,67 +98,71 @@ module _ (xs₀ : List Item) (t₀ b₀ : List ℕ) where
     abbrev pub its : Outcome
     its = outcome_of ts (item_at xs i)
 
-    -- the events so far and those that are left are all
-    sent-all : s.sent ++ (left ts xs i).events ≡ whole.events
-    sent-all = ap (λ (l : Listed). l.events) s.rest
-
-    pub k-most : k ≤ max_list_events
-    k-most =
-        let c = s.count in
-        let m = s.most in
-        let e : length (s.sent ++ (left ts xs i).events) ≡ length whole.events = ap (λ (es : List Event). length es) sent-all in
-        omega (arith, length-append s.sent (left ts xs i).events)
-
-    pub within : i < length xs₀ → i < length xs
-    within l = subst (λ (m : ℕ). i < m) (sym s.same-xs) l
-
     -- the item has room for its events
-    item-most : i < length xs₀ → k + length its.events ≤ max_list_events
-    item-most l =
+    pub item_room : i < length xs → Room (k + length its.events) bs
+    item_room l =
         let later : List Event = (serve_list its.table (drop (suc i) xs)).events in
-        let f : (left ts xs i).events ≡ its.events ++ later = ap (λ (w : Listed). w.events) (at_first ts xs i (within l)) in
-        let e : length (s.sent ++ (its.events ++ later)) ≡ length whole.events = ap (λ (es : List Event). length (s.sent ++ es)) (sym f) ∙ ap (λ (es : List Event). length es) sent-all in
+        let f : (left ts xs i).events ≡ its.events ++ later = ap (λ (w : Listed). w.events) (at_first ts xs i l) in
+        let e : length (s.sent ++ (its.events ++ later)) ≡ length whole.events
+        = ap (λ (es : List Event). length (s.sent ++ es)) (sym f) ∙ ap (λ (w : Listed). length w.events) s.rest in
         let c = s.count in
-        let m = s.most in
+        let r = s.room in
+        let b = s.same-bs in
         omega (arith, length-append s.sent (its.events ++ later), length-append its.events later)
 
-    pub item_room : i < length xs₀ → Room (k + length its.events) bs
-    item_room l = let m = item-most l in let r = s.start.room in let e = s.same-bs in omega arith
-
-    pub end-room : Room k bs
-    end-room = let m = k-most in let r = s.start.room in let e = s.same-bs in omega arith
-
-    abbrev pub next : i < length xs₀ → (r : ℕ) (ys : List Item) (u c : List ℕ) → Steps i k xs ts bs r ys u c
-        → length ys ≡ length xs → length u ≡ length ts → length c ≡ length bs → State (i + 1) r ys u c
-    next l r ys u c S lx lt lb = record {
+    abbrev pub next : i < length xs → (r : Item) (m : ℕ) (u c : List ℕ) → ServesItem k (item_at xs i) ts bs r m u c → State (i + 1) m (set xs i r) u c
+    next l r m u c S = record {
       sent = s.sent ++ its.events;
-      start = s.start;
-      most = s.most;
-      upto = omega arith;
-      same-xs = lx ∙ s.same-xs;
-      same-ts = lt ∙ s.same-ts;
-      same-bs = lb ∙ s.same-bs;
-      good = step-good ts u (item_at xs i) s.good S.table;
-      count = counted r S;
-      bytes = step-bytes b₀ bs c k s.sent its.events s.bytes s.count S.events;
-      rest = goes_on i k xs ts bs r ys u c s.sent (within l) S ∙ s.rest;
+      room = s.room;
+      same-xs = length-set xs i r ∙ s.same-xs;
+      same-bs = ap (λ (x : List ℕ). length x) S.events ∙ put-elements-length (event_layout width) bs 0 k (map event_fields its.events) ∙ s.same-bs;
+      good = item-good ts u (item_at xs i) s.good S.table;
+      count = counted m S.count;
+      bytes = S.events ∙ ap₂ (λ (x : List ℕ) (j : ℕ). put_events x j its.events) s.bytes s.count ∙ sym (events-then b₀ k₀ s.sent its.events);
+      rest = goes_on i k xs ts bs r m u c s.sent l S ∙ s.rest;
     }
       where
-        counted : (r : ℕ) → Steps i k xs ts bs r ys u c → r ≡ length (s.sent ++ its.events)
-        counted r S = let a = S.count in let d = s.count in omega (arith, length-append s.sent its.events)
+        counted : (m : ℕ) → m ≡ k + length its.events → m ≡ k₀ + length (s.sent ++ its.events)
+        counted m a = let d = s.count in omega (arith, length-append s.sent its.events)
 
-    -- the loop is over, and c has the count of events too
-    pub ended : length xs₀ ≤ i → (r : Answer) (c : List ℕ) → (r ≡ record { refusal = 0; handle = 0; events = k }) × (c ≡ put_be 4 bs 0 k) → ServesList xs₀ t₀ b₀ r xs ts c
-    unfolding list_outcome list_items events_over put_array
-    ended over r c F =
-        let all : record { items = xs; table = table_of width ts; events = s.sent } ≡ whole
-        = sym (all_done i xs ts s.sent (subst (λ (m : ℕ). m ≤ i) (sym s.same-xs) over)) ∙ s.rest in
+    -- the loop is over
+    pub ended : length xs ≤ i → Walks k₀ xs₀ t₀ b₀ k xs ts bs
+    ended over =
+        let all : record { items = xs; table = table_of width ts; events = s.sent } ≡ whole = sym (all_done i xs ts s.sent over) ∙ s.rest in
         record {
-          call = rw s.start.none (record {
-            answer = F.0 ∙ (λ j. record { refusal = 0; handle = 0; events = (s.count ∙ ap (λ (l : Listed). length l.events) all) j });
-            same = λ a. absurd a;
-            table = λ a. subst (λ (X : Table). Holds (length X.locks) X ts) (ap (λ (l : Listed). l.table) all) (record { shape = subst (λ (m : ℕ). Shape m ts) (sym (locks-length ts)) s.good.shape; says = refl });
-            events = F.1 ∙ ap₂ (λ (x : List ℕ) (m : ℕ). put_be 4 x 0 m) s.bytes s.count ∙ ap (λ (es : List Event). put_be 4 (put_events b₀ 0 es) 0 (length es)) (ap (λ (l : Listed). l.events) all) ∙ ap (λ (m : ℕ). put_be 4 (put_events b₀ 0 whole.events) 0 m) (sym (length-map whole.events event_fields));
-          });
-          items = rw s.start.none (ap (λ (l : Listed). l.items) all);
+          items = ap (λ (l : Listed). l.items) all;
+          table = record { shape = s.good.shape; says = ap (λ (l : Listed). l.table) all };
+          events = s.bytes ∙ ap (λ (l : Listed). put_events b₀ k₀ l.events) all;
+          count = s.count ∙ ap (λ (l : Listed). k₀ + length l.events) all;
         }
+
+-- the buffer of the events keeps its length
+pub walks-length : (k : ℕ) (xs : List Item) (t b : List ℕ) (s : ℕ) (ys : List Item) (u c : List ℕ) → Walks k xs t b s ys u c → length c ≡ length b
+walks-length k xs t b s ys u c W =
+    ap (λ (x : List ℕ). length x) W.events ∙ put-elements-length (event_layout width) b 0 k (map event_fields (serve_list (table_of width t) xs).events)
+
+-- the whole list: the items are served behind no events, and c has their count too
+module _ (xs : List Item) (t b : List ℕ) (P : Passed xs t b) where
+  pub list-room : Room (0 + length (serve_list (table_of width t) xs).events) b
+  list-room = let m = list-few (table_of width t) xs P.good.sounds in let r = P.room in omega arith
+
+  list-served : (a : Accepted) (ys : List Item) (u d c : List ℕ) (s : ℕ) → Walks 0 xs t b s ys u d → a ≡ record { handle = handle 0; events = s } → c ≡ put_be 4 d 0 s → ServesList xs t b (answer_to (Ok a)) ys u c
+  unfolding list_outcome list_items events_over put_array
+  list-served a ys u d c s W q e =
+      let counted : s ≡ length (serve_list (table_of width t) xs).events = W.count ∙ zero-add (length (serve_list (table_of width t) xs).events) in
+      record {
+        call = rw P.none (record {
+          answer = ap (λ (x : Accepted). answer_to (Ok x)) q ∙ ap {B = Answer} (λ (m : ℕ). record { refusal = 0; handle = 0; events = m }) counted;
+          same = λ z. absurd z;
+          table = λ z.
+              let many : length (locks_of width u) ≡ length (serve_list (table_of width t) xs).table.locks = ap (λ (X : Table). length X.locks) W.table.says in
+              record { shape = subst (λ (m : ℕ). Shape m u) (sym (locks-length u) ∙ many) W.table.shape; says = W.table.says };
+          events = e ∙ ap₂ (λ (x : List ℕ) (m : ℕ). put_be 4 x 0 m) W.events (counted ∙ sym (length-map (serve_list (table_of width t) xs).events event_fields));
+        });
+        items = rw P.none W.items;
+      }
+
+  -- the same of bytes that are equal to those
+  pub list-served-at : (a : Accepted) (ys : List Item) (u v d c e : List ℕ) (s : ℕ) → Walks 0 xs t b s ys u d → a ≡ record { handle = handle 0; events = s } → c ≡ put_be 4 d 0 s → v ≡ u → e ≡ c → ServesList xs t b (answer_to (Ok a)) ys v e
+  list-served-at a ys u v d c e s W q f g h =
+      subst (λ (x : List ℕ). ServesList xs t b (answer_to (Ok a)) ys x e) (sym g) (list-served a ys u d e s W q (h ∙ f))

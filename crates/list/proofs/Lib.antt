@@ -1,4 +1,3 @@
 pub mod Judging
 pub mod Serving
-pub mod Stepping
 pub mod Going

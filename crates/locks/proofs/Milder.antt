@@ -1,7 +1,7 @@
 -- Changes that make no lock conflict with more: a revocation, an acknowledgement, a downgrade. A waiting request stays as it is.
 use Prim.Native.Nat.{ℕ, zero, suc, ◌-◌, ◌≤◌, ◌<◌}
 use native.Mathlib.Omega.{arith}
-use mathlib.Core.Bool.{Bool, true, false, not, ◌&&◌, ◌||◌, cond}
+use mathlib.Core.Bool.{Bool, ◌&&◌, cond}
 use mathlib.Core.List.{List, []}
 use mathlib.Core.Logic.{⊎_elim}
 use mathlib.Core.Path.{◌≡◌, refl, sym, subst, ◌∙◌}
@@ -12,7 +12,9 @@ use Rattle.common.specs.Ranges.{overlap}
 use Rattle.common.proofs.Bools.{and_l, and_r, and_i, by_cond}
 use Rattle.common.proofs.Order.{below}
 use Rattle.modes.specs.Codes.{asked, canceling, nbw, bw, pw}
-use Rattle.modes.specs.Conflict.{never, always, unless, matrix, entry, bars, conflict}
+use Rattle.modes.specs.declared.Entry.{Entry}
+use Rattle.modes.specs.declared.Entry.TheVariants as e
+use Rattle.modes.specs.Conflict.{never, matrix, entry, bars, conflict}
 use Rattle.table.specs.declared.Lock.{Lock}
 use Rattle.table.specs.Table.{handle_of, waits}
 use Rattle.locks.specs.Conflicts.{other, conflicts}
@@ -54,12 +56,12 @@ revoked-milder rs r =
 -- what conflicts with a canceling lock conflicts with it in any state
 canceling-less : (a m s : ℕ) → T (conflict a m canceling) → T (conflict a m s)
 unfolding conflict
-canceling-less a m s = go (eqb (entry a m) always) (eqb (entry a m) unless)
+canceling-less a m s = go (entry a m)
   where
-    go : (x y : Bool) → T (x || (y && false)) → T (x || (y && not (eqb s canceling)))
-    go true y t = tt
-    go false true t = absurd t
-    go false false t = absurd t
+    go : (x : Entry) → T (bars x canceling) → T (bars x s)
+    go e.Never t = absurd t
+    go e.Always t = tt
+    go e.Unless t = absurd t
 
 pub acknowledged-milder : (c h : ℕ) (r : Lock) → Milder r (cond (may_acknowledge c h r) (in_state canceling r) r)
 acknowledged-milder c h r =

@@ -11,7 +11,9 @@ use Rattle.common.specs.Tests.{any, all}
 use Rattle.common.proofs.Bools.{and_l, by_cond}
 use Rattle.common.proofs.Listed.{any-map, all_map, all_of}
 use Rattle.modes.specs.Codes.{granted, asked}
-use Rattle.modes.specs.Conflict.{conflict}
+use Rattle.modes.specs.declared.Entry.{Entry}
+use Rattle.modes.specs.declared.Entry.TheVariants as e
+use Rattle.modes.specs.Conflict.{entry, bars, conflict}
 use Rattle.table.specs.declared.Lock.{Lock}
 use Rattle.table.specs.Table.{waits, handle_of}
 use Rattle.locks.specs.Conflicts.{other, against, conflicts, obstacle}
@@ -23,7 +25,12 @@ is-granted rs x t = eqb→eq x.state granted (and_l (eqb x.state granted) (any (
 
 pub same-matrix : (a m : ℕ) → conflict a m asked ≡ conflict a m granted
 unfolding conflict
-same-matrix a m = refl
+same-matrix a m = go (entry a m)
+  where
+    go : (x : Entry) → bars x asked ≡ bars x granted
+    go e.Never = refl
+    go e.Always = refl
+    go e.Unless = refl
 
 pub waits-same : (rs : List Lock) (x : Lock) → waits (revoked rs x) ≡ waits x
 waits-same rs x =

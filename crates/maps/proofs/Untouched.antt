@@ -88,8 +88,8 @@ on {x = x} (suc j) [] l = record { x = x; left = l }
 on {x = x} (suc j) (r ∷ ls) l = on {x = r.last + 1} j ls (left-next r l)
 
 -- of the runs that start at or before the byte x, all but the last end before it
-pub begun-ended : (s : List ℕ) (x n : ℕ) → sound_map_bytes s ≡ true → (n ≡ 0 → ⊥) → Begun s 0 x n → Ended s x (n - 1)
-begun-ended s x n sound z b =
+pub begun-ended : (s : List ℕ) (x n : ℕ) → sound_map_bytes s ≡ true → Begun s 0 x n → Ended s x (n - 1)
+begun-ended s x n sound b =
     let m = b.most in
     record {
       most = omega arith;
@@ -110,6 +110,16 @@ pub record Skipped (g : ℕ → ℕ) (s old out : List ℕ) (i : ℕ) (p : Pen) 
   pub left : Left (runs_of width s) (drop i (runs_of width s)) p.x
   pub drawn : Drawn g old out p
 
+-- a pen with the run at place j pending is fine: no more runs stand before it than bytes
+pub pending-fine : (s : List ℕ) → sound_map_bytes s ≡ true → (j : ℕ) → j < be 4 s 0 → Fine (record { k = j; cur = (run_at s j).first; tip = (run_at s j).age; x = (run_at s j).last + 1 })
+pending-fine s sound j h =
+    let m = map-facts s sound in
+    let rs : List Run = runs_of width s in
+    let v = valid-at s j h m.good in
+    let q = sane-pos (run_at s j).age v.some in
+    let f : Front 0 0 j (run_at s j).first rs (take j rs) = rw (runs-at s j h (run 0 0 0)) at (front j rs (run 0 0 0) (sound-canon rs m.sound) (rw runs-length h)) in
+    record { stored = omega (arith, f.few); behind = omega arith; begun = omega arith; exact = sane-exact (run_at s j).age v.some }
+
 module _ (s old : List ℕ) (piece : Run) (sound : sound_map_bytes s ≡ true) where
   -- the run at place j is pending
   pending-at : (j : ℕ) → j < be 4 s 0 → (run_at s j).last < piece.first
@@ -121,14 +131,13 @@ module _ (s old : List ℕ) (piece : Run) (sound : sound_map_bytes s ≡ true) w
       let r : Run = run_at s j in
       let c = sound-canon rs m.sound in
       let v = valid-at s j h m.good in
-      let q = sane-pos r.age v.some in
       let o = on j rs (left-all rs m.sound) in
       let l : Left rs (r ∷ drop (j + 1) rs) o.x = rw (runs-from s j h) at o.left in
       let f : Front 0 0 j r.first rs (take j rs) = rw (runs-at s j h (run 0 0 0)) at (front j rs (run 0 0 0) c (rw runs-length h)) in
       let e : draw (owner (piece ∷ rs)) 0 r.first ≡ take j rs =
       draws (owner (piece ∷ rs)) (take j rs) 0 r.first f.canon (omega (arith, f.ends)) (λ b _ u. omega (arith, over-before piece b (omega arith), f.says b (omega arith))) in
       record {
-        fine = record { stored = omega (arith, f.few); behind = omega arith; begun = omega arith; exact = sane-exact r.age v.some };
+        fine = pending-fine s sound j h;
         most = omega arith;
         left = left-next r l;
         drawn = record {

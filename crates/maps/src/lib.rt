@@ -1,147 +1,142 @@
 // Draws the map of a map and a piece.
 #![tactic(auto)]
 
-ghost use Rattle.std.specs.Prelude.{◌≡◌, true, [], ◌∷◌, suc, ◌+◌, ◌-◌, ◌≤◌, length, take, drop};
+ghost use Rattle.std.specs.Prelude.{◌≡◌, [], ◌∷◌, suc, ◌+◌, ◌-◌, ◌≤◌, take, drop};
 ghost use Rattle.common.specs.Counters.{width};
 ghost use Rattle.common.specs.Ranges.{eof};
 ghost use Rattle.xdr.specs.Be.{be};
 ghost use Rattle.runs.specs.Ages.{value_of, Exact};
 ghost use Rattle.runs.specs.Owner.{owner};
 ghost use Rattle.runs.specs.Map.{raise};
-ghost use Rattle.runs.specs.Bytes.{map_size, runs_of, sound_map_bytes};
+ghost use Rattle.runs.specs.Bytes.{runs_of};
 ghost use Rattle.runs.specs.Valid.{Valid};
-ghost use Rattle.pen.specs.Drawing.{Fine, with_runs, Added, Went, Stored};
+ghost use Rattle.pen.specs.Drawing.{fresh, with_runs, Added, Went, Stored};
 ghost use Rattle.maps.specs.Untouched.{under, Begun, Ended, pen_at, start_of};
 
-use pen::Pen;
+use pen::{Drawing, Pen};
+use runbytes::{MAP_SIZE, Map};
 use runs::{Age, Run};
 
 // Draws the age m up to before q, across the piece: before it, inside it at the greater age, and after it.
-fn cross(out: &mut [u8], p: Pen, q: u64, m: Age, piece: Run) -> Pen
-    requires { (length out.old ≡ map_size width) × Fine p × Exact m × Valid piece }
-    ensures { Went p q (under piece (value_of m)) out.old out.new result }
+fn cross(d: &mut Drawing<'_>, q: u64, m: Age, piece: Run)
+    requires { Exact m × Valid piece }
+    ensures went { Went d.old.pen q (under piece (value_of m)) d.old.out.now d.new.out.now d.new.pen }
+    ensures lent { d.new.out.ghost_name ≡ d.old.out.ghost_name }
 {
-    let before = pen::push(out, p, common::lesser(q, piece.first), m);
-    let inside = pen::push(
-        out,
-        before,
-        common::lesser(q, piece.last + 1),
-        runs::later(piece.age, m),
-    );
-    pen::push(out, inside, q, m)
+    d.push(q.min(piece.first), m);
+    d.push(q.min(piece.last + 1), runs::later(piece.age, m));
+    d.push(q, m);
 }
 
 // Draws the age m up to before q, raised to the piece's where that is greater.
-fn span(out: &mut [u8], p: Pen, q: u64, m: Age, piece: Run) -> Pen
-    requires { (length out.old ≡ map_size width) × Fine p × Exact m × Valid piece }
-    ensures { Went p q (under piece (value_of m)) out.old out.new result }
+fn span(d: &mut Drawing<'_>, q: u64, m: Age, piece: Run)
+    requires { Exact m × Valid piece }
+    ensures went { Went d.old.pen q (under piece (value_of m)) d.old.out.now d.new.out.now d.new.pen }
+    ensures lent { d.new.out.ghost_name ≡ d.old.out.ghost_name }
 {
-    if q <= piece.first {
-        return pen::push(out, p, q, m);
+    if q <= piece.first || piece.last < d.pen.x {
+        d.push(q, m);
+    } else {
+        cross(d, q, m, piece);
     }
-    if piece.last < p.x {
-        return pen::push(out, p, q, m);
-    }
-    cross(out, p, q, m, piece)
 }
 
 // Draws up to the end of a run of the map, raised by the piece.
-fn draw_run(out: &mut [u8], p: Pen, r: Run, piece: Run) -> Pen
-    requires { (length out.old ≡ map_size width) × Fine p × Valid r × Valid piece }
-    ensures { Went p (r.last + 1) (owner (piece ∷ r ∷ [])) out.old out.new result }
+fn draw_run(d: &mut Drawing<'_>, r: Run, piece: Run)
+    requires { Valid r × Valid piece }
+    ensures went { Went d.old.pen (r.last + 1) (owner (piece ∷ r ∷ [])) d.old.out.now d.new.out.now d.new.pen }
+    ensures lent { d.new.out.ghost_name ≡ d.old.out.ghost_name }
 {
-    let gap = span(out, p, r.first, runs::none(), piece);
-    span(out, gap, r.last + 1, r.age, piece)
+    span(d, r.first, runs::none(), piece);
+    span(d, r.last + 1, r.age, piece);
 }
 
-// Counts the runs of a sound map that start at or before the byte x; the first `from` of them do.
-fn begun(map: &[u8], from: usize, x: u64) -> usize
-    requires { (sound_map_bytes map.now ≡ true) × (from ≤ be 4 map.now 0) }
-    ensures { Begun map.now from x result }
+// Counts the runs of a map that start at or before the byte x; the first `from` of them do. std's `partition_point` goes over a slice
+// of elements, and the runs are bytes, so the search stands here.
+fn begun(map: &Map<'_>, from: usize, x: u64) -> usize
+    requires { from ≤ be 4 map.now.bytes.now 0 }
+    ensures { Begun map.now.bytes.now from x result }
 {
     let mut low = from;
-    let mut high = runbytes::count(map);
+    let mut high = map.count();
     while low < high {
         let middle = (low + high) / 2;
-        if runbytes::first_at(map, middle) <= x {
+        if map.first(middle) <= x {
             low = middle + 1;
-            continue;
+        } else {
+            high = middle;
         }
-        high = middle;
     }
     low
 }
 
-// Counts runs of a sound map that end before the byte x: all that start at or before it, but for the last of these.
-fn ended(map: &[u8], x: u64) -> usize
-    requires { sound_map_bytes map.now ≡ true }
-    ensures { Ended map.now x result }
+// Counts runs of a map that end before the byte x: all that start at or before it, but for the last of these.
+fn ended(map: &Map<'_>, x: u64) -> usize
+    ensures { Ended map.now.bytes.now x result }
 {
-    let n = begun(map, 0, x);
-    if n == 0 {
-        return 0;
-    }
-    n - 1
+    begun(map, 0, x).saturating_sub(1)
 }
 
-// Finds where the run at place i of a sound map starts: past EOF where there is none.
-fn start_at(map: &[u8], i: usize) -> u64
-    requires { (sound_map_bytes map.now ≡ true) × (i ≤ be 4 map.now 0) }
-    ensures { (result ≡ start_of (drop i (runs_of width map.now))) × (result ≤ suc eof) }
+// Finds where the run at place i of a map starts: past EOF where there is none, which is a border like any other, so an Option says no more.
+fn start_at(map: &Map<'_>, i: usize) -> u64
+    requires { i ≤ be 4 map.now.bytes.now 0 }
+    ensures { (result ≡ start_of (drop i (runs_of width map.now.bytes.now))) × (result ≤ suc eof) }
 {
-    if i < runbytes::count(map) {
-        return runbytes::first_at(map, i);
+    if i < map.count() {
+        map.first(i)
+    } else {
+        common::EOF + 1
     }
-    common::EOF + 1
 }
 
-// Keeps the runs before place i of a sound map; the last of them is pending.
-fn skip(out: &mut [u8], map: &[u8], i: usize) -> Pen
-    requires { (length out.old ≡ map_size width) × (sound_map_bytes map.now ≡ true) × (i ≤ be 4 map.now 0) }
-    ensures { (result ≡ pen_at map.now i) × (out.new ≡ with_runs out.old 0 (take (i - 1) (runs_of width map.now))) }
+// Keeps the runs before place i of a map; the last of them is pending.
+fn skip(d: &mut Drawing<'_>, map: &Map<'_>, i: usize)
+    requires { (d.old.pen ≡ fresh) × (i ≤ be 4 map.now.bytes.now 0) }
+    ensures kept { (d.new.pen ≡ pen_at map.now.bytes.now i) × (d.new.out.now ≡ with_runs d.old.out.now 0 (take (i - 1) (runs_of width map.now.bytes.now))) }
+    ensures lent { d.new.out.ghost_name ≡ d.old.out.ghost_name }
 {
     if i == 0 {
-        return pen::start();
+        return;
     }
     let k = i - 1;
-    pen::keep(out, 0, map, 0, k);
-    let r = runbytes::run_at(map, k);
-    let tip = r.age;
-    Pen {
+    d.keep(0, map, 0, k);
+    let r = map.run(k);
+    d.pen = Pen {
         k,
         cur: r.first,
-        tip,
+        tip: r.age,
         x: r.last + 1,
-    }
+    };
 }
 
-// Keeps the runs from place i of a sound map on, behind k others, if they fit, and counts them.
-fn rest(out: &mut [u8], k: usize, map: &[u8], i: usize) -> usize
-    requires { (length out.old ≡ map_size width) × (sound_map_bytes map.now ≡ true) × (i ≤ be 4 map.now 0) × (k ≤ suc eof) }
-    ensures { Added (drop i (runs_of width map.now)) k out.old out.new result }
+// Keeps the runs from place i of a map on, behind k others, if they fit, and counts them.
+fn rest(d: &mut Drawing<'_>, k: usize, map: &Map<'_>, i: usize) -> usize
+    requires { (i ≤ be 4 map.now.bytes.now 0) × (k ≤ suc eof) }
+    ensures added { Added (drop i (runs_of width map.now.bytes.now)) k d.old.out.now d.new.out.now result }
+    ensures lent { d.new.out.ghost_name ≡ d.old.out.ghost_name }
 {
-    let n = runbytes::count(map) - i;
+    let n = map.count() - i;
     let total = k + n;
     if runbytes::MAX_RUNS < total {
         return total;
     }
-    pen::keep(out, k, map, i, n);
+    d.keep(k, map, i, n);
     total
 }
 
-// Draws a sound map raised by a piece, and counts its runs. Only the runs that the piece may meet or touch are drawn anew.
-pub fn raised(out: &mut [u8], map: &[u8], piece: Run) -> usize
-    requires { (length out.old ≡ map_size width) × (sound_map_bytes map.now ≡ true) × Valid piece }
-    ensures { Stored (raise piece (runs_of width map.now)) out.old out.new result }
+// Draws a map raised by a piece, and counts its runs. Only the runs that the piece may meet or touch are drawn anew.
+pub fn raised(out: &mut [u8; MAP_SIZE], map: &Map<'_>, piece: Run) -> usize
+    requires { Valid piece }
+    ensures { Stored (raise piece (runs_of width map.now.bytes.now)) out.old out.new result }
 {
-    let mut i = ended(map, piece.first);
-    let to = begun(map, i, piece.last + 1);
-    let mut p = skip(out, map, i);
-    while i < to {
-        p = draw_run(out, p, runbytes::run_at(map, i), piece);
-        i += 1;
+    let from = ended(map, piece.first);
+    let to = begun(map, from, piece.last + 1);
+    let mut d = Drawing::start(out);
+    skip(&mut d, map, from);
+    for i in from..to {
+        draw_run(&mut d, map.run(i), piece);
     }
-    p = span(out, p, start_at(map, to), runs::none(), piece);
-    let k = pen::flush(out, p);
-    rest(out, k, map, to)
+    span(&mut d, start_at(map, to), runs::none(), piece);
+    let k = d.flush();
+    rest(&mut d, k, map, to)
 }

@@ -1,26 +1,26 @@
 // A message on bytes of which nothing is known: 1 and 2 are judged, and then it is served.
 #![tactic(auto)]
 
-ghost use Rattle.table.specs.Table.{max_records};
-ghost use Rattle.table.specs.Places.{count_of, Good};
-ghost use Rattle.locks.specs.Events.{Room};
-ghost use Rattle.serve.specs.Posts.{OnSound};
-ghost use Rattle.message.specs.Messages.{Serves};
+ghost use Rattle.std.specs.Prelude.{◌≡◌};
+ghost use Rattle.common.specs.Refusals.{first_hit, answer_of};
+ghost use Rattle.serve.specs.Posts.{answer_to, Lent, Gives};
+ghost use Rattle.message.specs.Messages.{entry_rules, Serves};
 
-use common::Handle;
-use judge::Becomes;
+use common::{Handle, Refusal};
+use judge::{Asked, Becomes};
 use locks::Message;
-use serve::Answer;
+use serve::{Accepted, Answer};
+use settle::Events;
+use table::{Records, Table};
 
 // How many bytes the event buffer has at least.
 pub const EVENTS_BYTES: usize = locks::EVENTS + locks::EVENT_BYTES * table::MAX_RECORDS;
 
-// Serves one message.
-fn serve(t: &mut [u8], b: &mut [u8], m: Message) -> Answer
-    requires { Good (count_of t.old) t.old × Room max_records b.old }
-    ensures { OnSound m t.old b.old result t.new b.new }
+// Serves one message on a sound table.
+fn serve(t: &mut Table<'_>, e: &mut Events<'_>, m: Message) -> Result<Accepted, Refusal>
+    requires { Lent t.old e.old }
+    ensures { Gives m t.old e.old result t.new e.new }
 {
-    let n = table::count(t);
     match m {
         Message::Request {
             client,
@@ -29,26 +29,57 @@ fn serve(t: &mut [u8], b: &mut [u8], m: Message) -> Answer
             first,
             last,
             marked,
-        } => serve::request(t, b, n, client, stripe, mode, first, last, marked),
+        } => {
+            let a = Asked {
+                client,
+                stripe,
+                mode,
+                first,
+                last,
+                marked,
+            };
+            serve::request(t, e, a)
+        }
         Message::Acknowledge { client, handle } => {
-            serve::remake(t, b, n, client, Handle(handle), Becomes::Canceling)
+            serve::remake(t, e, client, Handle(handle), Becomes::Canceling)
         }
         Message::Downgrade { client, handle } => {
-            serve::remake(t, b, n, client, Handle(handle), Becomes::Nbw)
+            serve::remake(t, e, client, Handle(handle), Becomes::Nbw)
         }
-        Message::Release { client, handle } => serve::release(t, b, n, client, Handle(handle)),
+        Message::Release { client, handle } => serve::release(t, e, client, Handle(handle)),
     }
+}
+
+// Judges bytes of which nothing is known by 1 and 2.
+fn entry_refusal(table: &[u8], events: &[u8]) -> Result<(), Refusal>
+    ensures { answer_of result ≡ first_hit (entry_rules table.now events.now) }
+{
+    if events.len() < EVENTS_BYTES {
+        return Err(Refusal::EventBuffer);
+    }
+    if !sound::table_sound(table) {
+        return Err(Refusal::Table);
+    }
+    Ok(())
+}
+
+// Judges the bytes, and serves a message on them.
+fn enter(table: &mut [u8], events: &mut [u8], m: Message) -> Result<Accepted, Refusal>
+    ensures { Serves m table.old events.old (answer_to result) table.new events.new }
+{
+    entry_refusal(table, events)?;
+    let n = Records { bytes: &*table }.count();
+    let mut t = Table { bytes: table, n };
+    let mut e = Events {
+        bytes: events,
+        k: 0,
+    };
+    serve(&mut t, &mut e, m)
 }
 
 // Serves a message on bytes of which nothing is known.
 pub fn call(table: &mut [u8], events: &mut [u8], m: Message) -> Answer
     ensures { Serves m table.old events.old result table.new events.new }
 {
-    if events.len() < EVENTS_BYTES {
-        return serve::refused(1);
-    }
-    if !sound::table_sound(table) {
-        return serve::refused(2);
-    }
-    serve(table, events, m)
+    enter(table, events, m).into()
 }

@@ -10,6 +10,8 @@ use Rattle.common.specs.Ranges.{within}
 use Rattle.common.proofs.Bools.{and_l, and_r, and_i, or-e, or_l, or_r}
 use Rattle.common.proofs.Order.{eq→eqb}
 use Rattle.modes.specs.Codes.{pr, nbw, bw, canceling}
+use Rattle.modes.specs.declared.Entry.{Entry}
+use Rattle.modes.specs.declared.Entry.TheVariants as e
 use Rattle.modes.specs.Conflict.{never, always, unless, matrix, entry, bars, conflict}
 use Rattle.modes.proofs.Table.{grid, at-grid}
 
@@ -25,11 +27,28 @@ abbrev writers : ℕ → ℕ → Bool
 writers a m = eqb m nbw && within nbw a bw
 
 -- the entry by the rule
-abbrev kind : ℕ → ℕ → ℕ
+abbrev kind : ℕ → ℕ → Entry
 kind a m = cond (readers a m) never (cond (writers a m) unless always)
 
-abbrev ruled : ℕ → ℕ → ℕ → Bool
-ruled i k e = eqb e (kind (i + 1) (k + 1))
+abbrev same : Entry → Entry → Bool
+same e.Never e.Never = true
+same e.Always e.Always = true
+same e.Unless e.Unless = true
+same _ _ = false
+
+same→ : (x y : Entry) → T (same x y) → x ≡ y
+same→ e.Never e.Never t = refl
+same→ e.Always e.Always t = refl
+same→ e.Unless e.Unless t = refl
+same→ e.Never e.Always t = absurd t
+same→ e.Never e.Unless t = absurd t
+same→ e.Always e.Never t = absurd t
+same→ e.Always e.Unless t = absurd t
+same→ e.Unless e.Never t = absurd t
+same→ e.Unless e.Always t = absurd t
+
+abbrev ruled : ℕ → ℕ → Entry → Bool
+ruled i k x = same x (kind (i + 1) (k + 1))
 
 -- each entry of the matrix is the one by the rule: antt computes it
 entries : T (grid ruled 4 matrix)
@@ -38,7 +57,7 @@ entries = tt
 entry-is : (a m : ℕ) → 1 ≤ a → a ≤ 4 → 1 ≤ m → m ≤ 4 → entry a m ≡ kind a m
 entry-is a m h k i j =
     rw (sub-add_cancel h, sub-add_cancel i) at
-    (eqb→eq (entry a m) (kind (a - 1 + 1) (m - 1 + 1)) (at-grid never ruled 4 matrix entries (a - 1) (m - 1) (omega arith) (omega arith)))
+    (same→ (entry a m) (kind (a - 1 + 1) (m - 1 + 1)) (at-grid never ruled 4 matrix entries (a - 1) (m - 1) (omega arith) (omega arith)))
 
 -- what an entry by the rule lets pass
 clear : (x y : Bool) (s : ℕ) → not (bars (cond x never (cond y unless always)) s) ≡ (x || (y && eqb s canceling))

@@ -1,5 +1,5 @@
 -- "Mode codes: 1 PR, 2 NBW, 3 BW, 4 PW. State codes: 0 waiting, 1 granted, 2 asked (revocation sent), 3 canceling."
-use Rattle.std.specs.Prelude.{ℕ, Bool, cond, eqb, leb}
+use Rattle.std.specs.Prelude.{ℕ, Bool, cond, eqb, leb, Option, Some, None}
 use Rattle.common.specs.Ranges.{within}
 use Rattle.modes.specs.declared.Mode.{Mode}
 use Rattle.modes.specs.declared.Mode.TheVariants as m
@@ -17,6 +17,12 @@ bw = 3
 
 abbrev pub pw : ℕ
 pw = 4
+
+abbrev pub code_of : Mode → ℕ
+code_of m.Pr = pr
+code_of m.Nbw = nbw
+code_of m.Bw = bw
+code_of m.Pw = pw
 
 abbrev pub waiting : ℕ
 waiting = 0
@@ -36,8 +42,8 @@ known_mode code = within pr code pw
 abbrev pub known_state : ℕ → Bool
 known_state code = leb code canceling
 
-abbrev pub mode_of : ℕ → Mode
-mode_of code = cond (eqb code pr) m.Pr (cond (eqb code nbw) m.Nbw (cond (eqb code bw) m.Bw (cond (eqb code pw) m.Pw m.Unknown)))
+abbrev pub mode_of : ℕ → Option Mode
+mode_of code = cond (eqb code pr) (Some m.Pr) (cond (eqb code nbw) (Some m.Nbw) (cond (eqb code bw) (Some m.Bw) (cond (eqb code pw) (Some m.Pw) None)))
 
-abbrev pub state_of : ℕ → State
-state_of code = cond (eqb code waiting) s.Waiting (cond (eqb code granted) s.Granted (cond (eqb code asked) s.Asked (cond (eqb code canceling) s.Canceling s.Unknown)))
+abbrev pub state_of : ℕ → Option State
+state_of code = cond (eqb code waiting) (Some s.Waiting) (cond (eqb code granted) (Some s.Granted) (cond (eqb code asked) (Some s.Asked) (cond (eqb code canceling) (Some s.Canceling) None)))

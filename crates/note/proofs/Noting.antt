@@ -3,16 +3,16 @@ use Prim.Native.Nat.{ℕ, ◌+◌, ◌-◌, ◌≤◌, ◌<◌}
 use native.Mathlib.Omega.{arith}
 use mathlib.Core.Path.{◌≡◌, sym, ◌∙◌, ap, subst}
 use mathlib.Core.Bool.{true, false}
-use mathlib.Core.List.{List}
-use lib.ListN.{take, drop, replicate}
+use mathlib.Core.List.{List, [], ◌∷◌}
+use lib.Dec.{ltb, leb}
+use lib.ListN.{length, replicate}
 use borrow.Author.Tests.{ne_eqb, lt-ltb, le-ltb, le-leb, lt-leb}
 use Rattle.common.specs.Counters.{width}
-use Rattle.common.specs.Refusals.{first_hit}
-use Rattle.common.proofs.Bools.{and_l, and_r, undo, true-is, false-is}
-use Rattle.common.proofs.Order.{eq→eqb}
-use Rattle.common.proofs.Refusals.{unbroken}
+use Rattle.common.specs.Refusals.{Rule, rule, first_hit}
 use Rattle.common.proofs.Firsts.{first-stays}
+use Rattle.common.proofs.Refusals.{hit}
 use Rattle.xdr.specs.Be.{be, put_be}
+use Rattle.runs.specs.declared.Age.{Age}
 use Rattle.runs.specs.declared.Run.{Run}
 use Rattle.runs.specs.Map.{raise}
 use Rattle.runs.specs.Sound.{max_runs, max_entries}
@@ -25,17 +25,17 @@ use Rattle.stripe.specs.Piece.{place}
 use Rattle.stripe.specs.Refusals.{misplaced, misnumbered}
 use Rattle.stripe.proofs.Accepted.{placed, numbered, place-valid}
 use Rattle.pen.specs.Drawing.{Stored}
-use Rattle.note.specs.Note.{note_list, note_answer, note_map, note_log, Notes}
-use Rattle.note.specs.Early.{note_early}
+use Rattle.note.specs.Note.{note_answer, note_map, note_log, Notes}
 use Rattle.pen.proofs.Filling.{filled}
 use Rattle.stripe.proofs.Placing.{piece-place}
 
-ruleset tests = (and_l, and_r, undo, true-is, false-is)
-
 module _ (m l : List ℕ) (e : Extent) (image : ℕ) where
-  -- the entry, with a last byte that does not wrap
-  abbrev entry : Run
-  entry = record { first = e.first; last = e.first + (e.len - 1); age = (place e).age }
+  -- the rules of the piece alone, and those behind them
+  abbrev own : List Rule
+  own = rule 14 (misplaced e image) ∷ rule 15 (misnumbered e) ∷ []
+
+  abbrev late : List Rule
+  late = rule 16 (ltb max_runs (length (raise (place e) (runs_of width m)))) ∷ rule 17 (leb max_entries (length (runs_of width l))) ∷ []
 
   -- a refused note changes nothing
   refused : (k : ℕ) → (k ≡ 0 → ⊥) → k ≡ note_answer m l e image → Notes m l e image k m l
@@ -47,11 +47,17 @@ module _ (m l : List ℕ) (e : Extent) (image : ℕ) where
   unfolding note_map note_log
   accepted m' l' a u v = record { answers = a; map = rw (← a) u; log = rw (← a) v }
 
-  pub note-early : (k : ℕ) → (k ≡ 0 → ⊥) → k ≡ note_early m l e image → Notes m l e image k m l
-  unfolding note_early note_answer
-  note-early k h a =
-      let R = note_list m l e image in
-      refused k h (a ∙ first-stays (take 4 R) (drop 4 R) (λ z. h (a ∙ z)))
+  pub note-12 : sound_map_bytes m ≡ false → Notes m l e image 12 m l
+  unfolding note_answer
+  note-12 f = refused 12 (λ z. omega arith) (rw f)
+
+  pub note-13 : sound_map_bytes m ≡ true → sound_log_bytes l ≡ false → Notes m l e image 13 m l
+  unfolding note_answer
+  note-13 f g = refused 13 (λ z. omega arith) (rw (f, g))
+
+  pub note-own : sound_map_bytes m ≡ true → sound_log_bytes l ≡ true → (k : ℕ) → k ≡ first_hit own → (k ≡ 0 → ⊥) → Notes m l e image k m l
+  unfolding note_answer
+  note-own f g k h n = refused k n (rw (f, g) (h ∙ first-stays own late (λ z. n (h ∙ z))))
 
   pub record Unrefused : Type 0 where
     pub mapped : sound_map_bytes m ≡ true
@@ -61,37 +67,32 @@ module _ (m l : List ℕ) (e : Extent) (image : ℕ) where
     pub map : MapFacts m
     pub log : LogFacts l
     pub some : 0 < e.len
-    pub inside : e.first + e.len ≤ image
-    pub piece : entry ≡ place e
-    pub valid : Valid entry
+    pub valid : Valid (place e)
 
-  pub unrefused : (k : ℕ) → k ≡ note_early m l e image → k ≡ 0 → Unrefused
-  unfolding note_early
-  unrefused k a z =
-      let R = take 4 (note_list m l e image) in
-      let t = unbroken R tt (eq→eqb (first_hit R) 0 (sym a ∙ z)) in
-      let f : sound_map_bytes m ≡ true = search tests in
-      let g : sound_log_bytes l ≡ true = search tests in
-      let c : misplaced e image ≡ false = search tests in
-      let d : misnumbered e ≡ false = search tests in
-      let p = placed e image c in
-      let q = piece-place e p.some in
+  pub unrefused : sound_map_bytes m ≡ true → sound_log_bytes l ≡ true → 0 ≡ first_hit own → Unrefused
+  unrefused f g z =
+      let h : (misplaced e image ≡ false) × (first_hit (rule 15 (misnumbered e) ∷ []) ≡ 0) = hit 13 (misplaced e image) (rule 15 (misnumbered e) ∷ []) (sym z) in
+      let k : (misnumbered e ≡ false) × (first_hit [] ≡ 0) = hit 14 (misnumbered e) [] h.1 in
+      let p = placed e image h.0 in
       record {
         mapped = f;
         logged = g;
-        placed = c;
-        numbered = d;
+        placed = h.0;
+        numbered = k.0;
         map = map-facts m f;
         log = log_facts l g;
         some = p.some;
-        inside = p.inside;
-        piece = q;
-        valid = subst Valid (sym q) (place-valid e p (numbered e d));
+        valid = place-valid e p (numbered e k.0);
       }
 
-  module _ (P : Unrefused) (old s : List ℕ) (k : ℕ) (d : Stored (raise entry (runs_of width m)) old s k) where
+  -- the entry, with a last byte that does not wrap
+  pub entry : Unrefused → (first len : ℕ) (age : Age) → (first ≡ e.first) × (len ≡ e.len) × (age ≡ e.age)
+      → record { first = first; last = first + (len - 1); age = age } ≡ place e
+  entry P first len age h = rw (h.0, h.1, h.2) (piece-place e P.some)
+
+  module _ (P : Unrefused) (r : Run) (q : r ≡ place e) (old s : List ℕ) (k : ℕ) (d : Stored (raise r (runs_of width m)) old s k) where
     drawn : Stored (raise (place e) (runs_of width m)) old s k
-    drawn = subst (λ (r : Run). Stored (raise r (runs_of width m)) old s k) P.piece d
+    drawn = subst (λ (r : Run). Stored (raise r (runs_of width m)) old s k) q d
 
     pub note-16 : max_runs < k → Notes m l e image 16 m l
     unfolding note_answer
@@ -102,10 +103,10 @@ module _ (m l : List ℕ) (e : Extent) (image : ℕ) where
       unfolding note_answer
       note-17 n = refused 17 (λ z. omega arith) (rw (P.mapped, P.logged, P.placed, P.numbered, ← drawn.count, le-ltb max_runs k h, runs-length l, le-leb max_entries (be 4 l 0) n))
 
-      pub note-0 : (m' l' : List ℕ) → be 4 l 0 < max_entries → old ≡ replicate (map_size width) 0 → m' ≡ put_be 4 s 0 k → l' ≡ appended width l entry → Notes m l e image 0 m' l'
+      pub note-0 : (m' l' : List ℕ) → be 4 l 0 < max_entries → old ≡ replicate (map_size width) 0 → m' ≡ put_be 4 s 0 k → l' ≡ appended width l r → Notes m l e image 0 m' l'
       unfolding note_answer
       note-0 m' l' n z u v =
           accepted m' l'
           (rw (P.mapped, P.logged, P.placed, P.numbered, ← drawn.count, le-ltb max_runs k h, runs-length l, lt-leb max_entries (be 4 l 0) n))
           (u ∙ filled (raise (place e) (runs_of width m)) s k (rw z at drawn) h)
-          (v ∙ ap (appended width l) P.piece)
+          (v ∙ ap (appended width l) q)

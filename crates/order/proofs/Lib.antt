@@ -1,2 +1,3 @@
-pub mod Putting
+pub mod Sorting
+pub mod Searching
 pub mod Inserting

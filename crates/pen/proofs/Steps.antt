@@ -26,13 +26,6 @@ use Rattle.runs.proofs.Stretch.{draw-append, draw-flat}
 use Rattle.pen.specs.declared.Pen.{Pen}
 use Rattle.pen.specs.Drawing.{fresh, Fine, pending, with_runs, Drawn, Added, Flushed, Went, one, Stored}
 
--- where a run is pending, something is drawn
-pub flush-some : (p : Pen) (t : Bool) → Fine p → t ≡ eqb (value_of p.tip) 0 → t ≡ false → 1 ≤ p.x
-flush-some p t F e z =
-    let n = eqb-false (value_of p.tip) 0 (sym e ∙ z) in
-    let b = F.begun in
-    omega arith
-
 module _ (p : Pen) (out : List ℕ) (F : Fine p) (t : Bool) (e : t ≡ eqb (value_of p.tip) 0) where
   pub flush-none : t ≡ true → Flushed p out out p.k
   unfolding put_elements

@@ -1,5 +1,6 @@
 -- A map that is drawn from left to right. What the functions that draw promise each other; no public contract cites this file.
 use Rattle.std.specs.Prelude.{ℕ, suc, pred, ◌+◌, ◌≤◌, ◌<◌, min, max, ◌≡◌, cond, List, [], ◌∷◌, map, eqb, length}
+use Rattle.std.proofs.Props.{props}
 use Rattle.common.specs.Counters.{width}
 use Rattle.xdr.specs.Array.{put_elements}
 use Rattle.runs.specs.declared.Run.{Run}
@@ -20,6 +21,11 @@ pub record Fine (p : Pen) : Type 0 where
   pub behind : min p.x 1 + p.cur ≤ p.x
   pub begun : min (value_of p.tip) 1 ≤ p.x
   pub exact : Exact p.tip
+
+-- in one way at most, so that a drawing can keep it
+pub Fine-prop : (p : Pen) → IsProp (Fine p)
+unfolding Exact
+Fine-prop p = Prim.hlevel props
 
 -- the run from cur up to before x, which is not stored yet: none at age 0
 abbrev pub pending : Pen → List Run

@@ -1,1 +1,1 @@
-pub mod Walking
+pub mod Sweeping

@@ -2,7 +2,7 @@
 use Prim.Native.Nat.{ℕ, ◌≤◌, ◌<◌}
 use native.Mathlib.Omega.{arith}
 use mathlib.Core.Path.{◌≡◌, ◌∙◌}
-use mathlib.Core.Bool.{Bool, true, false}
+use mathlib.Core.Bool.{true, false}
 use mathlib.Core.List.{List}
 use lib.ListN.{length, replicate}
 use borrow.Author.Tests.{eq-eqb, ne_eqb, lt-ltb, le-ltb}
@@ -29,19 +29,19 @@ module _ (m l : List ℕ) where
   unfolding restart_answer
   restart-12 h = refused 12 (λ z. omega arith) (rw (ne_eqb (length m) (map_size width) h))
 
-  module _ (fits : length m ≡ map_size width) (b : Bool) (e : b ≡ sound_log_bytes l) where
-    pub restart-13 : b ≡ false → Restarts m l 13 m
+  module _ (fits : length m ≡ map_size width) where
+    pub restart-13 : sound_log_bytes l ≡ false → Restarts m l 13 m
     unfolding restart_answer
-    restart-13 h = refused 13 (λ z. omega arith) (rw (eq-eqb (length m) (map_size width) fits, ← e, h))
+    restart-13 h = refused 13 (λ z. omega arith) (rw (eq-eqb (length m) (map_size width) fits, h))
 
-    module _ (good : b ≡ true) (s : List ℕ) (k : ℕ) (d : Stored (map_of (runs_of width l)) (replicate (map_size width) 0) s k) where
+    module _ (good : sound_log_bytes l ≡ true) (s : List ℕ) (k : ℕ) (d : Stored (map_of (runs_of width l)) (replicate (map_size width) 0) s k) where
       pub restart-16 : max_runs < k → Restarts m l 16 m
       unfolding restart_answer
-      restart-16 h = refused 16 (λ z. omega arith) (rw (eq-eqb (length m) (map_size width) fits, ← e, good, ← d.count, lt-ltb max_runs k h))
+      restart-16 h = refused 16 (λ z. omega arith) (rw (eq-eqb (length m) (map_size width) fits, good, ← d.count, lt-ltb max_runs k h))
 
       pub restart-0 : k ≤ max_runs → (m' : List ℕ) → m' ≡ put_be 4 s 0 k → Restarts m l 0 m'
       unfolding restart_answer
       restart-0 h m' q =
           accepted m'
-          (rw (eq-eqb (length m) (map_size width) fits, ← e, good, ← d.count, le-ltb max_runs k h))
+          (rw (eq-eqb (length m) (map_size width) fits, good, ← d.count, le-ltb max_runs k h))
           (q ∙ filled (map_of (runs_of width l)) s k d h)

@@ -2,23 +2,25 @@
 #![tactic(auto)]
 
 ghost use Rattle.std.specs.Prelude.{◌≡◌};
+ghost use Rattle.common.specs.Refusals.{answer_of};
 ghost use Rattle.restart.specs.Restart.{Restarts};
 
+use common::Refusal;
+use runbytes::Log;
+
 // Fills the map with the log's map.
-pub fn restart(map: &mut [u8], log: &[u8]) -> u64
-    ensures { Restarts map.old log.now result map.new }
+pub fn restart(map: &mut [u8], log: &[u8]) -> Result<(), Refusal>
+    ensures { Restarts map.old log.now (answer_of result) map.new }
 {
     if map.len() != runbytes::MAP_SIZE {
-        return 12;
+        return Err(Refusal::Map);
     }
-    if !runbytes::log_sound(log) {
-        return 13;
-    }
+    let log = Log::of(log).ok_or(Refusal::Log)?;
     let mut scratch = [0u8; runbytes::MAP_SIZE];
-    let rebuilt = rebuild::rebuilt(&mut scratch, log);
-    if runbytes::MAX_RUNS < rebuilt {
-        return 16;
+    let runs = rebuild::rebuilt(&mut scratch, log);
+    if runbytes::MAX_RUNS < runs {
+        return Err(Refusal::Runs);
     }
-    pen::fill(map, &scratch, rebuilt);
-    0
+    pen::fill(map, &scratch, runs);
+    Ok(())
 }

@@ -2,9 +2,9 @@
 use Prim.Native.Nat.{ℕ, ◌+◌, ◌≤◌, ◌<◌}
 use native.Mathlib.Numerals.{add-one}
 use mathlib.Core.Path.{◌≡◌}
-use mathlib.Core.List.{List, [], ◌∷◌, ◌++◌}
-use lib.ListN.{length, get_or, take, drop, drop_of_length-le}
-use lib.Seq.{take-suc, drop-cons}
+use mathlib.Core.List.{List, [], ◌∷◌}
+use lib.ListN.{length, get_or, drop, drop_of_length-le}
+use lib.Seq.{drop-cons}
 use Rattle.common.specs.Counters.{width}
 use Rattle.xdr.specs.Be.{be}
 use Rattle.xdr.specs.Layout.{fields}
@@ -34,7 +34,3 @@ module _ (s : List ℕ) (i : ℕ) where
 
     pub runs-from : drop i (runs_of width s) ≡ run_at s i ∷ drop (i + 1) (runs_of width s)
     runs-from = rw (add-one, ← runs-at (run 0 0 0)) (drop-cons (runs_of width s) i (run 0 0 0) (rw runs-length h))
-
-    -- what is before place i + 1
-    pub runs-before : take (i + 1) (runs_of width s) ≡ take i (runs_of width s) ++ run_at s i ∷ []
-    runs-before = rw (add-one, ← runs-at (run 0 0 0)) (take-suc (runs_of width s) i (run 0 0 0) (rw runs-length h))

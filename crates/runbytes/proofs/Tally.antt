@@ -47,10 +47,14 @@ four a b c d x y z w =
     ∙ crossed ((a && b) && c) d ((x && y) && z) w
     ∙ ap (λ (t : Bool). (((a && b) && c) && d) && t) (and_assoc (x && y) z w)
 
+-- what is tested of the runs so far
+abbrev pub so_far : Bool → ℕ → ℕ → ℕ → Bool
+so_far rising last number pass = ((rising && leb last eof) && ltb 0 number) && ltb 0 pass
+
 -- one run more, whose pass is read from its bytes
 pub tally : (rising : Bool) (last number pass last' number' pass' : ℕ) (r : Run)
     → last' ≡ max last r.last → number' ≡ min number r.age.number.0 → pass' ≡ min pass r.age.pass.0 → r.age.pass.0 ≤ highest_pass
-    → ((((rising && leb r.first r.last) && leb last' eof) && ltb 0 number') && ltb 0 pass') ≡ ((((rising && leb last eof) && ltb 0 number) && ltb 0 pass) && valid r)
+    → so_far (rising && leb r.first r.last) last' number' pass' ≡ (so_far rising last number pass && valid r)
 unfolding sane
 tally rising last number pass last' number' pass' r e f g h =
     rw (e, f, g, leb-max last r.last eof, leb-min number r.age.number.0 1, leb-min pass r.age.pass.0 1, le-leb r.age.pass.0 highest_pass h, and-true (leb 1 r.age.pass.0))

@@ -1,12 +1,12 @@
 // Runs in bytes: reads and stores one, and tests maps and logs.
 #![tactic(auto)]
 
-ghost use Rattle.std.specs.Prelude.{◌≡◌, true, ◌+◌, ◌≤◌, ◌<◌, ◌^◌, length};
+ghost use Rattle.std.specs.Prelude.{◌≡◌, true, ◌+◌, ◌≤◌, ◌<◌, ◌^◌, length, IfSome, is_some};
 ghost use Rattle.common.specs.Counters.{width};
 ghost use Rattle.xdr.specs.Be.{be, put_be};
 ghost use Rattle.xdr.specs.Layout.{put_fields};
 ghost use Rattle.runs.specs.Ages.{highest_pass};
-ghost use Rattle.runs.specs.Sound.{max_entries, all_valid, leads, apart};
+ghost use Rattle.runs.specs.Sound.{max_runs, max_entries, all_valid, leads, apart};
 ghost use Rattle.runs.specs.Valid.{Valid};
 ghost use Rattle.runs.specs.Bytes.{run_layout, run_fields, log_size, runs_of, run_place, runs_end, sound_map_bytes, sound_log_bytes, appended};
 ghost use Rattle.runbytes.specs.Places.{run_at};
@@ -40,7 +40,7 @@ pub fn count(s: &[u8]) -> usize
     requires { 4 ≤ length s.now }
     ensures { (result ≡ be 4 s.now 0) × (result < 2 ^ 32) }
 {
-    xdr::u32_at(s, 0) as usize
+    xdr::number_at::<4>(s, 0) as usize
 }
 
 // Stores the count of the runs or of the entries.
@@ -48,7 +48,7 @@ pub fn put_count(s: &mut [u8], n: usize)
     requires { 4 ≤ length s.old }
     ensures { s.new ≡ put_be 4 s.old 0 n }
 {
-    xdr::put_u32(s, 0, n as u64);
+    xdr::put_number::<4>(s, 0, n as u64);
 }
 
 // Finds where the run at place i starts.
@@ -59,50 +59,28 @@ pub fn place(i: usize) -> usize
     COUNT_BYTES + RUN_BYTES * i
 }
 
-// Reads the first byte of the run at place i.
-pub fn first_at(s: &[u8], i: usize) -> u64
+// Reads the first byte of the run at place i. The three functions at a place ask for its room there: a view with the room of all counted
+// runs would serve the two tests of all of them alone, since `Log::first` and `put_run` go past the count.
+fn first_at(s: &[u8], i: usize) -> u64
     requires { run_place width (i + 1) ≤ length s.now }
     ensures { result ≡ (run_at s.now i).first }
 {
-    xdr::u64_at(s, place(i))
+    xdr::number_at::<8>(s, place(i))
 }
 
-// Reads the last byte of the run at place i.
-pub fn last_at(s: &[u8], i: usize) -> u64
+// Reads the run at place i: 4 bytes hold no pass above the highest.
+fn run_at(s: &[u8], i: usize) -> Run
     requires { run_place width (i + 1) ≤ length s.now }
-    ensures { result ≡ (run_at s.now i).last }
+    ensures { (result ≡ run_at s.now i) × (result.age.pass.0 ≤ highest_pass) }
 {
-    xdr::u64_at(s, place(i) + LAST)
-}
-
-// Reads the pass of the run at place i.
-fn pass_at(s: &[u8], i: usize) -> u64
-    requires { run_place width (i + 1) ≤ length s.now }
-    ensures { (result ≡ (run_at s.now i).age.pass.0) × (result ≤ highest_pass) }
-{
-    xdr::u32_at(s, place(i) + PASS)
-}
-
-// Reads the age of the run at place i.
-pub fn age_at(s: &[u8], i: usize) -> Age
-    requires { run_place width (i + 1) ≤ length s.now }
-    ensures { result ≡ (run_at s.now i).age }
-{
-    Age {
-        number: Number(common::counter_at(s, place(i) + NUMBER)),
-        pass: Pass(pass_at(s, i)),
-    }
-}
-
-// Reads the run at place i.
-pub fn run_at(s: &[u8], i: usize) -> Run
-    requires { run_place width (i + 1) ≤ length s.now }
-    ensures { result ≡ run_at s.now i }
-{
+    let at = place(i);
     Run {
-        first: first_at(s, i),
-        last: last_at(s, i),
-        age: age_at(s, i),
+        first: xdr::number_at::<8>(s, at),
+        last: xdr::number_at::<8>(s, at + LAST),
+        age: Age {
+            number: Number(common::counter_at(s, at + NUMBER)),
+            pass: Pass(xdr::number_at::<4>(s, at + PASS)),
+        },
     }
 }
 
@@ -112,10 +90,10 @@ pub fn put_run(s: &mut [u8], k: usize, r: Run)
     ensures { s.new ≡ put_fields (run_layout width) s.old (run_place width k) 0 (run_fields r) }
 {
     let at = place(k);
-    xdr::put_u64(s, at, r.first);
-    xdr::put_u64(s, at + LAST, r.last);
+    xdr::put_number::<8>(s, at, r.first);
+    xdr::put_number::<8>(s, at + LAST, r.last);
     common::put_counter(s, at + NUMBER, r.age.number.0);
-    xdr::put_u32(s, at + PASS, r.age.pass.0);
+    xdr::put_number::<4>(s, at + PASS, r.age.pass.0);
 }
 
 // Appends an entry to a log that has room: its bytes, and then the count.
@@ -129,24 +107,21 @@ pub fn append(log: &mut [u8], r: Run)
 }
 
 // Tests that every run is valid: none falls, the greatest last byte is not past EOF, and the least number and the least pass are
-// at least 1. The pass comes from its own reader, which says that 4 bytes hold none above the highest.
+// at least 1.
 fn all_valid(s: &[u8]) -> bool
     requires { runs_end width s.now ≤ length s.now }
     ensures { result ≡ all_valid (runs_of width s.now) }
 {
-    let n = count(s);
     let mut rising = true;
     let mut last: u64 = 0;
     let mut number: u64 = 1;
     let mut pass: u64 = 1;
-    let mut i: usize = 0;
-    while i < n {
+    for i in 0..count(s) {
         let r = run_at(s, i);
-        rising = rising & (r.first <= r.last);
-        last = common::greater(last, r.last);
-        number = common::lesser(number, r.age.number.0);
-        pass = common::lesser(pass, pass_at(s, i));
-        i += 1;
+        rising &= r.first <= r.last;
+        last = last.max(r.last);
+        number = number.min(r.age.number.0);
+        pass = pass.min(r.age.pass.0);
     }
     rising & (last <= common::EOF) & (0 < number) & (0 < pass)
 }
@@ -164,12 +139,9 @@ fn all_apart(s: &[u8]) -> bool
     requires { (runs_end width s.now ≤ length s.now) × (all_valid (runs_of width s.now) ≡ true) }
     ensures { result ≡ apart (runs_of width s.now) }
 {
-    let n = count(s);
     let mut ok = true;
-    let mut i: usize = 0;
-    while i + 1 < n {
-        ok = ok & is_apart(run_at(s, i), run_at(s, i + 1));
-        i += 1;
+    for i in 1..count(s) {
+        ok &= is_apart(run_at(s, i - 1), run_at(s, i));
     }
     ok
 }
@@ -178,28 +150,104 @@ fn all_apart(s: &[u8]) -> bool
 pub fn map_sound(s: &[u8]) -> bool
     ensures { result ≡ sound_map_bytes s.now }
 {
-    if s.len() != MAP_SIZE {
-        return false;
-    }
-    let n = count(s);
-    if MAX_RUNS < n {
-        return false;
-    }
-    if !all_valid(s) {
-        return false;
-    }
-    all_apart(s) & common::is_blank(s, place(n))
+    s.len() == MAP_SIZE
+        && count(s) <= MAX_RUNS
+        && all_valid(s)
+        && all_apart(s)
+        && common::is_blank(s, place(count(s)))
 }
 
 // Tests whether the bytes are a sound log.
 pub fn log_sound(s: &[u8]) -> bool
     ensures { result ≡ sound_log_bytes s.now }
 {
-    if s.len() != LOG_SIZE {
-        return false;
+    s.len() == LOG_SIZE && count(s) <= MAX_ENTRIES && all_valid(s)
+}
+
+// The bytes of a sound map, lent for reading.
+#[derive(Clone, Copy)]
+pub struct Map<'a> {
+    pub bytes: &'a [u8],
+    ghost sound: { sound_map_bytes bytes.now ≡ true },
+}
+
+impl<'a> Map<'a> {
+    // Takes bytes for a map where they are a sound one.
+    pub fn of(bytes: &'a [u8]) -> Option<Map<'a>>
+        ensures some { IfSome result (λ m. m.bytes.now ≡ bytes.now) }
+        ensures sound { is_some result ≡ sound_map_bytes bytes.now }
+    {
+        if map_sound(bytes) {
+            Some(Map { bytes })
+        } else {
+            None
+        }
     }
-    if MAX_ENTRIES < count(s) {
-        return false;
+
+    // Counts the runs.
+    pub fn count(&self) -> usize
+        ensures { (result ≡ be 4 self.now.bytes.now 0) × (result ≤ max_runs) }
+    {
+        count(self.bytes)
     }
-    all_valid(s)
+
+    // Reads the run at place i.
+    pub fn run(&self, i: usize) -> Run
+        requires { i < be 4 self.now.bytes.now 0 }
+        ensures { (result ≡ run_at self.now.bytes.now i) × Valid result }
+    {
+        run_at(self.bytes, i)
+    }
+
+    // Reads the first byte of the run at place i.
+    pub fn first(&self, i: usize) -> u64
+        requires { i < be 4 self.now.bytes.now 0 }
+        ensures { result ≡ (run_at self.now.bytes.now i).first }
+    {
+        first_at(self.bytes, i)
+    }
+}
+
+// The bytes of a sound log, lent for reading.
+#[derive(Clone, Copy)]
+pub struct Log<'a> {
+    pub bytes: &'a [u8],
+    ghost sound: { sound_log_bytes bytes.now ≡ true },
+}
+
+impl<'a> Log<'a> {
+    // Takes bytes for a log where they are a sound one.
+    pub fn of(bytes: &'a [u8]) -> Option<Log<'a>>
+        ensures some { IfSome result (λ l. l.bytes.now ≡ bytes.now) }
+        ensures sound { is_some result ≡ sound_log_bytes bytes.now }
+    {
+        if log_sound(bytes) {
+            Some(Log { bytes })
+        } else {
+            None
+        }
+    }
+
+    // Counts the entries.
+    pub fn count(&self) -> usize
+        ensures { (result ≡ be 4 self.now.bytes.now 0) × (result ≤ max_entries) }
+    {
+        count(self.bytes)
+    }
+
+    // Reads the first byte of the entry at place i, where a log has room for one.
+    pub fn first(&self, i: usize) -> u64
+        requires { i < max_entries }
+        ensures { result ≡ (run_at self.now.bytes.now i).first }
+    {
+        first_at(self.bytes, i)
+    }
+
+    // Reads the entry at place i.
+    pub fn entry(&self, i: usize) -> Run
+        requires { i < be 4 self.now.bytes.now 0 }
+        ensures { (result ≡ run_at self.now.bytes.now i) × Valid result }
+    {
+        run_at(self.bytes, i)
+    }
 }

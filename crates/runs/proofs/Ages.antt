@@ -4,12 +4,13 @@ use Prim.Native.Nat.{ℕ, ◌+◌, ◌*◌, ◌/◌, ◌%◌, ◌≤◌, ◌<◌
 use native.Mathlib.Omega.{arith}
 use mathlib.Core.Path.{◌≡◌, refl, sym, ◌∙◌, ap, subst}
 use mathlib.Core.Logic.{⊎_elim}
-use mathlib.Core.Bool.{Bool, true, false, ◌&&◌}
+use mathlib.Core.Bool.{true, ◌&&◌, cond}
 use lib.Dec.{eqb, ltb}
-use borrow.Author.Tests.{ltb-true, ltb-false, lt-ltb, le-ltb, leb-true, eq-eqb, ne_eqb}
+use borrow.Author.Tests.{ltb-true, lt-ltb, le-ltb, leb-true}
+use Rattle.std.proofs.lemmas.Grind.{common_steps}
 use Rattle.common.specs.Counters.{width, highest}
 use Rattle.common.proofs.Bools.{and_left, and_right}
-use Rattle.common.proofs.Order.{below, same}
+use Rattle.common.proofs.Order.{below}
 use Rattle.runs.specs.declared.Age.{Age}
 use Rattle.runs.specs.declared.Run.{Run}
 use Rattle.runs.specs.Ages.{pair, passes, highest_pass, value_of, age, Exact}
@@ -56,11 +57,7 @@ sane-exact a e = pass-exact a (sane-is a e).most
 -- the age of no run has number 0 and pass 0
 pub none-pair : (a : Age) → (eqb a.number.0 0 && eqb a.pass.0 0) ≡ eqb (value_of a) 0
 unfolding value_of
-none-pair a =
-    ⊎_elim
-    (λ (n : a.number.0 ≡ 0). let v : a.pass.0 ≡ value_of a = omega arith in rw (eq-eqb a.number.0 0 n) (ap (λ (k : ℕ). eqb k 0) v))
-    (λ (n : a.number.0 ≡ 0 → ⊥). rw (ne_eqb a.number.0 0 n, ne_eqb (value_of a) 0 (λ (e : value_of a ≡ 0). n (omega arith))))
-    (same a.number.0 0)
+none-pair a = grind (arith, common_steps)
 
 -- "age is judged by number first and pass second": two ages whose passes are at most the highest
 module _ (a b : Age) (x : Exact a) (y : Exact b) where
@@ -69,44 +66,38 @@ module _ (a b : Age) (x : Exact a) (y : Exact b) where
   same-pair =
       let p = exact-pass a x in
       let q = exact-pass b y in
-      ⊎_elim
-      (λ (n : a.number.0 ≡ b.number.0). ⊎_elim
-      (λ (m : a.pass.0 ≡ b.pass.0). rw (eq-eqb _ _ n, eq-eqb _ _ m, eq-eqb _ _ (value_same n m)))
-      (λ (m : a.pass.0 ≡ b.pass.0 → ⊥). rw (eq-eqb _ _ n, ne_eqb _ _ m, ne_eqb _ _ (λ (e : value_of a ≡ value_of b). m (omega arith))))
-      (same a.pass.0 b.pass.0))
-      (λ (n : a.number.0 ≡ b.number.0 → ⊥). rw (ne_eqb _ _ n, ne_eqb _ _ (λ (e : value_of a ≡ value_of b). n (omega arith))))
-      (same a.number.0 b.number.0)
-    where
-      value_same : a.number.0 ≡ b.number.0 → a.pass.0 ≡ b.pass.0 → value_of a ≡ value_of b
-      value_same n m = omega arith
+      grind (arith, common_steps)
 
   pub by-pass : a.number.0 ≡ b.number.0 → ltb a.pass.0 b.pass.0 ≡ ltb (value_of a) (value_of b)
   unfolding value_of
   by-pass n =
-      ⊎_elim
-      (λ (k : a.pass.0 < b.pass.0). rw (lt-ltb a.pass.0 b.pass.0 k, lt-ltb (value_of a) (value_of b) (omega arith)))
-      (λ (k : b.pass.0 ≤ a.pass.0). rw (le-ltb a.pass.0 b.pass.0 k, le-ltb (value_of a) (value_of b) (omega arith)))
-      (below a.pass.0 b.pass.0)
+      let p = exact-pass a x in
+      let q = exact-pass b y in
+      grind (arith, common_steps)
 
   pub by_number : (a.number.0 ≡ b.number.0 → ⊥) → ltb a.number.0 b.number.0 ≡ ltb (value_of a) (value_of b)
   unfolding value_of
   by_number n =
       let p = exact-pass a x in
       let q = exact-pass b y in
+      grind (arith, common_steps)
+
+  -- the two in one, as the derived order of the fields asks it
+  pub older-pair : cond (ltb a.number.0 b.number.0) true (eqb a.number.0 b.number.0 && ltb a.pass.0 b.pass.0) ≡ ltb (value_of a) (value_of b)
+  unfolding value_of
+  older-pair =
+      let p = exact-pass a x in
+      let q = exact-pass b y in
+      grind (arith, common_steps)
+
+  -- the later of the two is that of the greater ℕ
+  pub later-pair : cond (ltb (value_of b) (value_of a)) a b ≡ age (max (value_of a) (value_of b))
+  unfolding Exact
+  later-pair =
       ⊎_elim
-      (λ (k : a.number.0 < b.number.0). rw (lt-ltb a.number.0 b.number.0 k, lt-ltb (value_of a) (value_of b) (omega arith)))
-      (λ (k : b.number.0 ≤ a.number.0). rw (le-ltb a.number.0 b.number.0 k, le-ltb (value_of a) (value_of b) (omega arith)))
-      (below a.number.0 b.number.0)
-
--- of two ages the second is the later, or the first
-module _ (a b : Age) (o : Bool) (e : o ≡ ltb (value_of a) (value_of b)) where
-  pub later_second : Exact b → o ≡ true → b ≡ age (max (value_of a) (value_of b))
-  unfolding Exact
-  later_second x t = let h = ltb-true (value_of a) (value_of b) (sym e ∙ t) in let m : max (value_of a) (value_of b) ≡ value_of b = omega arith in sym (ap age m ∙ x)
-
-  pub later_first : Exact a → o ≡ false → a ≡ age (max (value_of a) (value_of b))
-  unfolding Exact
-  later_first x t = let h = ltb-false (value_of a) (value_of b) (sym e ∙ t) in let m : max (value_of a) (value_of b) ≡ value_of a = omega arith in sym (ap age m ∙ x)
+      (λ (k : value_of b < value_of a). let m : max (value_of a) (value_of b) ≡ value_of a = omega arith in rw (lt-ltb (value_of b) (value_of a) k, m) (sym x))
+      (λ (k : value_of a ≤ value_of b). let m : max (value_of a) (value_of b) ≡ value_of b = omega arith in rw (le-ltb (value_of b) (value_of a) k, m) (sym y))
+      (below (value_of b) (value_of a))
 
 -- the greatest age whose fields fit their bytes
 abbrev pub highest_age : ℕ

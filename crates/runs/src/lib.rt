@@ -10,11 +10,11 @@ use common::Number;
 pub const HIGHEST_PASS: u64 = 4294967295;
 
 // A pass tells apart what a client writes to one byte under one lock. It counts passes from 1.
-#[derive(Clone, Copy)]
+#[derive(Clone, Copy, PartialEq, Eq, PartialOrd, Ord)]
 pub struct Pass(pub u64);
 
 // By what runs and pieces are judged: the number of their grant first, and the pass second.
-#[derive(Clone, Copy)]
+#[derive(Clone, Copy, PartialEq, Eq, PartialOrd, Ord)]
 pub struct Age {
     pub number: Number,
     pub pass: Pass,
@@ -28,7 +28,7 @@ pub struct Run {
     pub age: Age,
 }
 
-// Makes the age of a byte that is in no run.
+// Makes the age of a byte that is in no run: a name says more than a default would.
 pub fn none() -> Age
     ensures { result ≡ age 0 }
 {
@@ -42,15 +42,15 @@ pub fn none() -> Age
 pub fn is_none(a: Age) -> bool
     ensures { result ≡ eqb (value_of a) 0 }
 {
-    (a.number.0 == 0) & (a.pass.0 == 0)
+    a == none()
 }
 
-// Tests whether two ages are one.
+// Tests whether two ages are one. The derived comparisons speak of fields; these three say the same of the ages' one ℕ, by which maps are drawn.
 pub fn same(a: Age, b: Age) -> bool
     requires { Exact a × Exact b }
     ensures { result ≡ eqb (value_of a) (value_of b) }
 {
-    (a.number.0 == b.number.0) & (a.pass.0 == b.pass.0)
+    a == b
 }
 
 // Tests whether the first age is the older one: by its number, and at equal numbers by its pass.
@@ -58,10 +58,7 @@ pub fn older(a: Age, b: Age) -> bool
     requires { Exact a × Exact b }
     ensures { result ≡ ltb (value_of a) (value_of b) }
 {
-    if a.number.0 == b.number.0 {
-        return a.pass.0 < b.pass.0;
-    }
-    a.number.0 < b.number.0
+    a < b
 }
 
 // Takes the later of two ages.
@@ -69,8 +66,5 @@ pub fn later(a: Age, b: Age) -> Age
     requires { Exact a × Exact b }
     ensures { result ≡ age (max (value_of a) (value_of b)) }
 {
-    if older(a, b) {
-        return b;
-    }
-    a
+    a.max(b)
 }

@@ -1,24 +1,25 @@
-// A call on the bytes of a sound table: its refusals, its own change, and the settling. The four messages are such calls.
+// A call on a sound table: its refusals, its own change, and the settling. The four messages are such calls.
 #![tactic(auto)]
 
-ghost use Rattle.std.specs.Prelude.{◌≡◌, cond, ◌+◌, length};
+ghost use Rattle.std.specs.Prelude.{◌≡◌, ◌+◌, length, Ok};
 ghost use Rattle.common.specs.Counters.{width};
-ghost use Rattle.table.specs.Table.{max_records};
+ghost use Rattle.xdr.specs.Be.{put_be};
 ghost use Rattle.table.specs.Bytes.{table_of};
 ghost use Rattle.table.specs.Places.{Good};
-ghost use Rattle.locks.specs.declared.Message.TheVariants.{Request, Release};
+ghost use Rattle.locks.specs.declared.Message.TheVariants.{Release};
 ghost use Rattle.locks.specs.Settle.{settle};
 ghost use Rattle.locks.specs.Serve.{asking, serve};
 ghost use Rattle.locks.specs.Events.{Room};
-ghost use Rattle.judge.specs.Posts.{asks};
-ghost use Rattle.serve.specs.Posts.{OnSound, Behind, Ends, EndsBehind, with_count};
+ghost use Rattle.judge.specs.Posts.{asks, requests};
+ghost use Rattle.serve.specs.Posts.{answer_to, Behind, EndsBehind, Ends, Lent, StillLent, Gives};
 
-use common::{Handle, Number};
-use judge::Becomes;
+use common::{Handle, Number, Refusal};
+use judge::{Asked, Becomes};
 use modes::WAITING;
-use table::{Lock, MARKED, UNMARKED};
+use settle::Events;
+use table::{Lock, MARKED, Table, UNMARKED};
 
-// What a call answers: its refusal or 0, the handle that it made or named, and how many events it wrote.
+// What C is answered by a call: its refusal or 0, the handle that it made or named, and how many events it wrote.
 #[repr(C)]
 #[derive(Clone, Copy)]
 pub struct Answer {
@@ -27,163 +28,132 @@ pub struct Answer {
     pub events: u64,
 }
 
-// Answers a refusal.
-pub fn refused(k: u64) -> Answer
-    ensures { result ≡ record { refusal = k; handle = 0; events = 0 } }
-{
-    Answer {
-        refusal: k,
-        handle: 0,
-        events: 0,
+// What an accepted call answers: the handle that it made or named, and how many events it wrote.
+#[derive(Clone, Copy)]
+pub struct Accepted {
+    pub handle: Handle,
+    pub events: usize,
+}
+
+// A refused call answers its number, no handle and no events.
+impl From<Result<Accepted, Refusal>> for Answer {
+    ghost from_gives = { λ r a. a ≡ answer_to r };
+
+    fn from(r: Result<Accepted, Refusal>) -> Answer {
+        match r {
+            Ok(accepted) => Answer {
+                refusal: 0,
+                handle: accepted.handle.0,
+                events: accepted.events as u64,
+            },
+            Err(refusal) => Answer {
+                refusal: refusal.into(),
+                handle: 0,
+                events: 0,
+            },
+        }
     }
 }
 
-// Settles the changed table, writes the events behind j others, and answers the handle h. The count of the events is the caller's to store.
-fn settled(t: &mut [u8], b: &mut [u8], n: usize, j: usize, h: Handle) -> Answer
-    requires { Good n t.old × Room (j + length (settle (table_of width t.old)).events) b.old }
-    ensures { EndsBehind j h.0 (table_of width t.old) b.old result t.new b.new }
+// Settles the changed table, writes the events behind those that stand there already, and answers the handle h. Their count is the caller's to
+// store.
+fn settled(t: &mut Table<'_>, e: &mut Events<'_>, h: Handle) -> Accepted
+    requires { Good t.old.n t.old.bytes.now × Room (e.old.k + length (settle (table_of width t.old.bytes.now)).events) e.old.bytes.now }
+    ensures { EndsBehind e.old.k h.0 (table_of width t.old.bytes.now) e.old.bytes.now (answer_to (Ok result)) e.new.k t.new.bytes.now e.new.bytes.now × StillLent t.old e.old t.new e.new }
 {
-    let k = settle::settle(t, b, n, j);
-    Answer {
-        refusal: 0,
-        handle: h.0,
-        events: (k - j) as u64,
+    let before = e.k;
+    settle::settle(t, e);
+    Accepted {
+        handle: h,
+        events: e.k - before,
     }
 }
 
 // Stores how many events an accepted call gave.
-fn put_count(b: &mut [u8], a: Answer)
-    requires { Room 0 b.old }
-    ensures { b.new ≡ with_count a b.old }
+pub fn put_count(e: &mut Events<'_>, a: Accepted)
+    requires { Room 0 e.old.bytes.now }
+    ensures { (e.new.bytes.now ≡ put_be 4 e.old.bytes.now 0 a.events) × (e.new.bytes.ghost_name ≡ e.old.bytes.ghost_name) × (e.new.k ≡ e.old.k) }
 {
-    if a.refusal != 0 {
-        return;
-    }
-    xdr::put_u32(b, 0, a.events);
+    xdr::put_number::<4>(e.bytes, 0, a.events as u64);
 }
 
 // Settles the changed table, stores how many events there are, and answers the handle h.
-fn finish(t: &mut [u8], b: &mut [u8], n: usize, h: Handle) -> Answer
-    requires { Good n t.old × Room max_records b.old }
-    ensures { Ends h.0 (table_of width t.old) b.old result t.new b.new }
+fn finish(t: &mut Table<'_>, e: &mut Events<'_>, h: Handle) -> Accepted
+    requires { Lent t.old e.old }
+    ensures { Ends h.0 (table_of width t.old.bytes.now) e.old.bytes.now (answer_to (Ok result)) t.new.bytes.now e.new.bytes.now × StillLent t.old e.old t.new e.new }
 {
-    let a = settled(t, b, n, 0, h);
-    put_count(b, a);
-    a
-}
-
-// The mark of a waiting request.
-fn mark_of(marked: bool) -> u64
-    ensures { result ≡ cond marked 1 0 }
-{
-    if marked { MARKED } else { UNMARKED }
+    let accepted = settled(t, e, h);
+    put_count(e, accepted);
+    accepted
 }
 
 // Makes the record of a request, which waits.
-fn waiting(
-    h: Handle,
-    client: u64,
-    stripe: u64,
-    mode: u64,
-    first: u64,
-    last: u64,
-    marked: bool,
-) -> Lock
-    ensures { result ≡ asking h.0 client stripe mode first last marked }
+fn waiting(h: Handle, a: Asked) -> Lock
+    ensures { result ≡ asking h.0 a.client a.stripe a.mode a.first a.last a.marked }
 {
     Lock {
         handle: h,
-        client: client,
-        stripe: stripe,
-        mode: mode,
+        client: a.client,
+        stripe: a.stripe,
+        mode: a.mode,
         state: WAITING,
         number: Number(0),
-        first: first,
-        last: last,
-        mark: mark_of(marked),
+        first: a.first,
+        last: a.last,
+        mark: if a.marked { MARKED } else { UNMARKED },
     }
 }
 
-// Adds a waiting record for a request, and settles, behind j events. The count of the events is the caller's to store.
-pub fn ask(
-    t: &mut [u8],
-    b: &mut [u8],
-    n: usize,
-    j: usize,
-    client: u64,
-    stripe: u64,
-    mode: u64,
-    first: u64,
-    last: u64,
-    marked: bool,
-) -> Answer
-    requires { Good n t.old × Room (j + length (serve (table_of width t.old) (Request client stripe mode first last marked)).events) b.old }
-    ensures { Behind j (serve (table_of width t.old) (Request client stripe mode first last marked)) t.old b.old result t.new b.new }
+// Adds a waiting record for a request, and settles, behind the events that stand there. Their count is the caller's to store.
+pub fn ask(t: &mut Table<'_>, e: &mut Events<'_>, a: Asked) -> Result<Accepted, Refusal>
+    requires { Good t.old.n t.old.bytes.now × Room (e.old.k + length (serve (table_of width t.old.bytes.now) (requests a)).events) e.old.bytes.now }
+    ensures { Behind e.old.k (serve (table_of width t.old.bytes.now) (requests a)) t.old.bytes.now e.old.bytes.now (answer_to result) e.new.k t.new.bytes.now e.new.bytes.now × StillLent t.old e.old t.new e.new }
 {
-    let k = judge::request_refusal(t, n, client, stripe, mode, first, last);
-    if k != 0 {
-        return refused(k);
-    }
-    let h = Handle(table::issued(t) + 1);
-    let l = waiting(h, client, stripe, mode, first, last, marked);
-    table::put_issued(t, n, h.0);
-    table::add(t, n, l);
-    settled(t, b, n + 1, j, h)
+    judge::request_refusal(t, a)?;
+    let h = Handle(t.records().issued() + 1);
+    t.put_issued(h.0);
+    t.add(waiting(h, a));
+    Ok(settled(t, e, h))
 }
 
-// Serves a request.
-pub fn request(
-    t: &mut [u8],
-    b: &mut [u8],
-    n: usize,
-    client: u64,
-    stripe: u64,
-    mode: u64,
-    first: u64,
-    last: u64,
-    marked: bool,
-) -> Answer
-    requires { Good n t.old × Room max_records b.old }
-    ensures { OnSound (Request client stripe mode first last marked) t.old b.old result t.new b.new }
+// Gives a request.
+pub fn request(t: &mut Table<'_>, e: &mut Events<'_>, a: Asked) -> Result<Accepted, Refusal>
+    requires { Lent t.old e.old }
+    ensures { Gives (requests a) t.old e.old result t.new e.new }
 {
-    let a = ask(t, b, n, 0, client, stripe, mode, first, last, marked);
-    put_count(b, a);
-    a
+    let accepted = ask(t, e, a)?;
+    put_count(e, accepted);
+    Ok(accepted)
 }
 
 // Remakes the client's record with the handle, and settles.
 pub fn remake(
-    t: &mut [u8],
-    b: &mut [u8],
-    n: usize,
+    t: &mut Table<'_>,
+    e: &mut Events<'_>,
     client: u64,
     handle: Handle,
     to: Becomes,
-) -> Answer
-    requires { Good n t.old × Room max_records b.old }
-    ensures { OnSound (asks to client handle.0) t.old b.old result t.new b.new }
+) -> Result<Accepted, Refusal>
+    requires { Lent t.old e.old }
+    ensures { Gives (asks to client handle.0) t.old e.old result t.new e.new }
 {
-    let f = judge::named(t, n, client, handle);
-    if f.refusal != 0 {
-        return refused(f.refusal);
-    }
-    let l = table::lock_at(t, f.place);
-    if !judge::ready(l, to) {
-        return refused(11);
-    }
-    table::put_lock(t, n, f.place, judge::becoming(l, to));
-    finish(t, b, n, handle)
+    let i = judge::named(t, client, handle)?;
+    let l = to.of(t.records().lock(i))?;
+    t.put_lock(i, l);
+    Ok(finish(t, e, handle))
 }
 
 // Removes a record, or withdraws a request, and settles.
-pub fn release(t: &mut [u8], b: &mut [u8], n: usize, client: u64, handle: Handle) -> Answer
-    requires { Good n t.old × Room max_records b.old }
-    ensures { OnSound (Release client handle.0) t.old b.old result t.new b.new }
+pub fn release(
+    t: &mut Table<'_>,
+    e: &mut Events<'_>,
+    client: u64,
+    handle: Handle,
+) -> Result<Accepted, Refusal>
+    requires { Lent t.old e.old }
+    ensures { Gives (Release client handle.0) t.old e.old result t.new e.new }
 {
-    let f = judge::named(t, n, client, handle);
-    if f.refusal != 0 {
-        return refused(f.refusal);
-    }
-    table::remove(t, n, f.place);
-    finish(t, b, n - 1, handle)
+    let i = judge::named(t, client, handle)?;
+    t.remove(i);
+    Ok(finish(t, e, handle))
 }

@@ -3,18 +3,19 @@ use Prim.Native.Nat.{ℕ}
 use mathlib.Core.Path.{◌≡◌, refl, ap, ◌∙◌}
 use mathlib.Core.List.{List, [], ◌∷◌, ◌++◌, map, map-append, append_assoc}
 use Rattle.table.specs.Table.{Table}
-use Rattle.line.specs.declared.Read.{Read}
+use Rattle.std.specs.declared.option.Option.{Option}
+use Rattle.locks.specs.declared.Message.{Message}
 use Rattle.line.specs.Format.{read_line}
 use Rattle.lines.specs.Lines.{lines_from, lines_in, left}
 use Rattle.lines.proofs.Pieces.{lines_cut, lines_join}
 use Rattle.session.specs.Session.{next, answers, table_after, written_from, said_in}
 
 -- what is answered to some lines and then to others
-pub answers-join : (t : Table) (rs qs : List Read) → answers t (rs ++ qs) ≡ answers t rs ++ answers (table_after t rs) qs
+pub answers-join : (t : Table) (rs qs : List (Option Message)) → answers t (rs ++ qs) ≡ answers t rs ++ answers (table_after t rs) qs
 answers-join t [] qs = refl
 answers-join t (r ∷ rs) qs = rw (append_assoc, answers-join (next t r) rs qs)
 
-pub table-join : (t : Table) (rs qs : List Read) → table_after t (rs ++ qs) ≡ table_after (table_after t rs) qs
+pub table-join : (t : Table) (rs qs : List (Option Message)) → table_after t (rs ++ qs) ≡ table_after (table_after t rs) qs
 table-join t [] qs = refl
 table-join t (r ∷ rs) qs = table-join (next t r) rs qs
 

@@ -14,17 +14,17 @@ use Rattle.session.specs.Session.{written_from, written}
 use Rattle.session.proofs.Joining.{written-cut}
 use Rattle.session.specs.Run.{Run, end, read, feed, joined, start}
 
-run-writes : {line table output : List ℕ} {pieces : List (List ℕ)} {n : ℕ} → Run line n table pieces output → (p : List ℕ) → Keeps (take n line) p
+run-writes : {line table output : List ℕ} {pieces : List (List ℕ)} → Run line table pieces output → (p : List ℕ) → Keeps line p
     → output ≡ written_from (table_of width table) p (joined pieces)
-run-writes (end E) p k = E.says p k
+run-writes (end E) p k = E p k
 run-writes (read R) p k = run-writes R p k
-run-writes (feed {piece = piece} {table = table} {pieces = pieces} {r = r} h F R) p k =
-    let s = take r.at piece in
-    let rest = drop r.at piece in
+run-writes (feed {piece = piece} {table = table} {pieces = pieces} {n = n} h F R) p k =
+    let s = take n piece in
+    let rest = drop n piece in
     let K = F.takes p k in
     ap₂ (λ (a b : List ℕ). a ++ b) (F.says p k) (run-writes R (left p s) K.keeps ∙ ap (λ (x : Table). written_from x (left p s) (rest ++ joined pieces)) K.after)
     ∙ sym (written-cut (table_of width table) p s (rest ++ joined pieces))
-    ∙ ap (written_from (table_of width table) p) (sym (append_assoc s rest (joined pieces)) ∙ ap (λ (l : List ℕ). l ++ joined pieces) (take-append-drop r.at piece))
+    ∙ ap (written_from (table_of width table) p) (sym (append_assoc s rest (joined pieces)) ∙ ap (λ (l : List ℕ). l ++ joined pieces) (take-append-drop n piece))
 
-pub only : (pieces : List (List ℕ)) (line output : List ℕ) → Run line 0 start pieces output → output ≡ written (joined pieces)
-only pieces line output R = run-writes R [] (inl refl) ∙ ap (λ (x : Table). written_from x [] (joined pieces)) (zeros-empty (table_size width))
+pub only : (pieces : List (List ℕ)) (output : List ℕ) → Run [] start pieces output → output ≡ written (joined pieces)
+only pieces output R = run-writes R [] (inl refl) ∙ ap (λ (x : Table). written_from x [] (joined pieces)) (zeros-empty (table_size width))

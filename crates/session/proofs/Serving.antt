@@ -26,12 +26,11 @@ use Rattle.message.specs.Messages.{Serves}
 use Rattle.table.proofs.Zeros.{sound-good}
 use Rattle.promises.proofs.Sessions as sessions
 use Rattle.promises.proofs.Sessions.{outcome-is, Follows}
-use Rattle.line.specs.declared.Read.TheVariants.{Bad, Good}
+use Rattle.std.specs.Prelude.{Some, None}
 use Rattle.text.specs.Text.{bad_text, outcome_text, line_size, outcome_size}
 use Rattle.text.specs.Buffers.{Wrote, events_in}
-use Rattle.text.proofs.Writing.{wrote-front}
 use Rattle.text.proofs.Events.{events-read}
-use Rattle.session.specs.Buffers.{Lent, Answers}
+use Rattle.session.specs.Buffers.{Answers}
 
 -- a message that comes by itself is served by the entry that takes no mark
 pub unmarked : {m : Message} {x s k f l : ℕ} {d : Bool} {t b u c : List ℕ} {r : Answer} → T (single m) → m ≡ Request x s k f l d → Serves (Request x s k f l false) t b r u c → Serves m t b r u c
@@ -80,21 +79,6 @@ module _ (m : Message) (t b : List ℕ) {r : Answer} {u c : List ℕ} (s : sound
       go false e = rw (refused_none (table_of width t) m e)
 
   -- the lines of its answer are put
-  pub answered-good : {n k : ℕ} {out before : List ℕ} → Lent t b before → n ≡ r.events → length c ≡ length b
-      → Wrote (outcome_size n) before out 0 k (outcome_text r.refusal r.handle (events_in c n)) → Answers (Good m) t k u c out
-  answered-good {n} {k} {out} {before} l e z w =
-      record {
-        lent = record { sound = follows.sound; event-room = omega (arith, l.event-room, z); text-room = omega (arith, l.text-room, w.size) };
-        within = (wrote-front w).0;
-        says = w.says ∙ rw (e, served.answer, read);
-        after = follows.says;
-      }
-
--- a bad line
-pub answered-bad : {t b before out : List ℕ} {k : ℕ} → Lent t b before → Wrote (line_size 0) before out 0 k bad_text → Answers Bad t k t b out
-answered-bad l w = record {
-  lent = record { sound = l.sound; event-room = l.event-room; text-room = omega (arith, l.text-room, w.size) };
-  within = (wrote-front w).0;
-  says = w.says;
-  after = refl;
-}
+  pub answered-good : {n : ℕ} {out : List ℕ} → n ≡ r.events → Wrote (outcome_size n) [] out (outcome_text r.refusal r.handle (events_in c n))
+      → Answers (Some m) t u out
+  answered-good {n} {out} e w = record { sound = follows.sound; says = w.says ∙ rw (e, served.answer, read); after = follows.says }

@@ -1,15 +1,13 @@
 -- The grant of a request that is due: the table stays sound after it, so what is stored fits, and the stores make the turn of the rules.
 use Prim.Native.Nat.{ℕ, suc, ◌+◌, ◌^◌, ◌<◌}
 use native.Mathlib.Omega.{arith}
-use mathlib.Core.Bool.{Bool, true, false, not, ◌&&◌, cond}
+use mathlib.Core.Bool.{false, not, ◌&&◌, cond}
 use mathlib.Core.List.{List, [], ◌∷◌, ◌++◌}
 use mathlib.Core.Path.{◌≡◌, refl, sym, ap, ap₂, subst, ◌∙◌}
 use lib.Dec.{T, not_T, le→leb, ltb, ltb→lt}
 use lib.ListN.{length, get_or, take, drop}
-use borrow.Author.Tests.{eq-eqb, ne_eqb}
 use lib.Seq.{split_at}
 use Rattle.common.specs.Counters.{width}
-use Rattle.common.specs.Ranges.{eof}
 use Rattle.common.specs.Tests.{all, any}
 use Rattle.common.proofs.Bools.{and_l, and_i, nand-l, nand-r, false-is, by_cond, cond-true}
 use Rattle.common.proofs.Listed.{all-at, all-imp, nobody, pairs-before}
@@ -21,9 +19,9 @@ use Rattle.table.specs.Bytes.{locks_of, table_of}
 use Rattle.table.specs.Places.{lock_at, LockFits, Holds, Good, Moded, moded, Past, with_lock}
 use Rattle.table.proofs.Facts.{Valid, valid→, Sound, sound→}
 use Rattle.table.proofs.Fitting.{lock-fits}
-use Rattle.table.proofs.Records.{inside, nth-is}
+use Rattle.table.proofs.Reading.{inside, nth-is}
 use Rattle.locks.specs.Conflicts.{conflicts, hurries}
-use Rattle.locks.specs.Settle.{Settled, grant_event, given, widest, last_given, next_number, lasts_after, grant, free, granting, turn}
+use Rattle.locks.specs.Settle.{Settled, grant_event, given, last_given, next_number, lasts_after, grant, free, granting, turn}
 use Rattle.locks.specs.Events.{Room}
 use Rattle.locks.proofs.Turn.{w-valid-here, grant-sound}
 use Rattle.settle.specs.Posts.{granted_as, Took, Due, put_events, fresh, Did}
@@ -41,21 +39,6 @@ number_is : (lasts : List ℕ) (rs : List Lock) (w : Lock) → number_of (grant 
 unfolding grant
 number_is lasts rs w =
     by_cond (λ (g : Lock). number_of g ≡ next_number lasts w) (any (hurries w) rs) (given w canceling (next_number lasts w) w.last) (given w granted (next_number lasts w) (last_given rs w)) (λ u. refl) (λ u. refl)
-
--- what w, read as x, becomes, by the answer b
-module _ (rs : List Lock) (w x : Lock) (v : ℕ) (b : Bool) (f : w ≡ x) (e : b ≡ any (hurries x) rs) where
-  pub as-early : (r : Lock) → b ≡ true → r ≡ given w canceling v w.last → r ≡ granted_as rs w v
-  as-early r g q = rw (f, ← e, g, ← f) q
-
-  wide-as : (l : ℕ) → b ≡ false → l ≡ last_given rs w → given w granted v l ≡ granted_as rs w v
-  wide-as l g p = ap (given w granted v) p ∙ ap (λ (y : Bool). cond y (given w canceling v w.last) (given w granted v (last_given rs w))) (sym g ∙ e ∙ ap (λ (y : Lock). any (hurries y) rs) (sym f))
-
-  pub as-marked : (r : Lock) → b ≡ false → (w.mark ≡ 0 → ⊥) → r ≡ given w granted v w.last → r ≡ granted_as rs w v
-  as-marked r g p q = q ∙ wide-as w.last g (sym (ap (λ (y : Bool). cond (not y) w.last (widest w eof rs)) (ne_eqb w.mark 0 p)))
-
-  pub as_wide : (r : Lock) (l : ℕ) → b ≡ false → w.mark ≡ 0 → l ≡ widest x eof rs → r ≡ given w granted v l → r ≡ granted_as rs w v
-  as_wide r l g p h q =
-      q ∙ wide-as l g (h ∙ ap (λ (y : Lock). widest y eof rs) (sym f) ∙ sym (ap (λ (y : Bool). cond (not y) w.last (widest w eof rs)) (eq-eqb w.mark 0 p)))
 
 -- a record with a smaller handle does not hurry w
 earlier : (w r : Lock) → T (agree r w) → T (not (hurries w r))
@@ -116,8 +99,8 @@ module _ (n i : ℕ) (w : Lock) (t : List ℕ) (D : Due n i w t) where
   pub due-room : (k : ℕ) (b : List ℕ) → Room (k + length (turn i (fresh (table_of width t))).events) b → Room (k + 1) b
   due-room k b h = subst (λ (s : Settled). Room (k + length s.events) b) due-turn h
 
-  -- the number v is taken, which leaves u; w becomes g
-  module _ (v : ℕ) (u : List ℕ) (g : Lock) (K : Took n w (table_of width t) v u) where
+  -- the number v is taken, which leaves u
+  module _ (v : ℕ) (u : List ℕ) (K : Took n w (table_of width t) v u) where
     same-locks : locks_of width u ≡ rs
     same-locks = ap (λ (X : Table). X.locks) K.table.says
 
@@ -133,7 +116,8 @@ module _ (n i : ℕ) (w : Lock) (t : List ℕ) (D : Due n i w t) where
       none = subst (λ (x : Lock). any (hurries x) (take i (locks_of width u)) ≡ false) due-here (ap (λ (l : List Lock). any (hurries w) (take i l)) same-locks ∙ unhurried);
     }
 
-    module _ (q : g ≡ granted_as (locks_of width u) w v) where
+    -- w becomes g
+    module _ (g : Lock) (q : g ≡ granted_as (locks_of width u) w v) where
       as-granted : g ≡ grant lasts rs w
       unfolding grant
       as-granted = q ∙ ap₂ (λ (l : List Lock) (m : ℕ). granted_as l w m) same-locks K.number

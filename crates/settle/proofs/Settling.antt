@@ -8,13 +8,12 @@ use Rattle.common.specs.Counters.{width}
 use Rattle.table.specs.Table.{Table}
 use Rattle.table.specs.Bytes.{locks_of, table_of}
 use Rattle.table.specs.Places.{Good, Moded}
-use Rattle.table.proofs.Records.{locks-length}
+use Rattle.table.proofs.Reading.{locks-length}
 use Rattle.locks.specs.Settle.{Settled, turns, revocations, revoke, settle}
-use Rattle.locks.specs.Events.{Room}
 use Rattle.settle.specs.Posts.{fresh, Did}
 use Rattle.settle.proofs.Granting.{good-moded}
 use Rattle.settle.proofs.Turning.{turns-good}
-use Rattle.settle.proofs.Written.{did_then, did-long}
+use Rattle.settle.proofs.Written.{did_then}
 
 module _ (n : ℕ) (t : List ℕ) (G : Good n t) where
   abbrev turned : Settled
@@ -24,24 +23,16 @@ module _ (n : ℕ) (t : List ℕ) (G : Good n t) where
   unfolding settle
   settle_is = ap (λ (m : ℕ). revoke (turns m (table_of width t))) (locks-length t ∙ G.shape.count)
 
-  told : length (settle (table_of width t)).events ≡ length turned.events + length (revocations turned.table.locks)
+  pub told : length (settle (table_of width t)).events ≡ length (turns n (table_of width t)).events + length (revocations (turns n (table_of width t)).table.locks)
   told = ap (λ (s : Settled). length s.events) settle_is ∙ length-append turned.events (revocations turned.table.locks)
-
-  pub turns_fit : (j : ℕ) (b : List ℕ) → Room (j + length (settle (table_of width t)).events) b → Room (j + length (turns n (table_of width t)).events) b
-  turns_fit j b z = let e = told in omega arith
 
   -- the turns are over, and there are g events, j of them from before
   module _ (j g : ℕ) (b u c : List ℕ) (D : Did n j (turns n (table_of width t)) b g u c) where
     pub settle-moded : Moded n u
     settle-moded = good-moded n u (turns-good n n j g t b u c G (omega arith) D)
 
-    pub settle-room : Room (j + length (settle (table_of width t)).events) b → Room (g + length (revocations (locks_of width u))) c
-    settle-room z =
-        let e = ap (λ (X : Table). length (revocations X.locks)) D.table.says in
-        let a = told in
-        let k = D.count in
-        let l = did-long n j g turned b u c D in
-        omega arith
+    pub left-told : length (revocations (locks_of width u)) ≡ length (revocations (turns n (table_of width t)).table.locks)
+    left-told = ap (λ (X : Table). length (revocations X.locks)) D.table.says
 
     pub settle-done : (r : ℕ) (v d : List ℕ) → Did n g (revoke (fresh (table_of width u))) c r v d → Did n j (settle (table_of width t)) b r v d
     settle-done r v d E =

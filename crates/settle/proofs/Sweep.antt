@@ -1,5 +1,5 @@
 -- Revoking place by place: a revocation changes no record that waits, so each record is wanted as it was before the first one.
-use Prim.Native.Nat.{ℕ, suc, ◌+◌, ◌≤◌, ◌<◌}
+use Prim.Native.Nat.{ℕ, suc, ◌+◌, ◌<◌}
 use native.Mathlib.Omega.{arith}
 use native.Mathlib.Numerals.{add-one}
 use mathlib.Core.Bool.{Bool, true, false, ◌&&◌, cond}
@@ -18,7 +18,7 @@ use Rattle.table.specs.declared.Lock.{Lock}
 use Rattle.table.specs.Table.{Table, blank, waits}
 use Rattle.table.specs.Bytes.{locks_of, table_of}
 use Rattle.table.specs.Places.{Shape, Moded, moded, Past, First, with_lock, with_locks}
-use Rattle.table.proofs.Records.{locks-length, inside}
+use Rattle.table.proofs.Reading.{locks-length, inside}
 use Rattle.locks.specs.Settle.{Event, Settled, revocation, in_state, presses, wanted, revoked, revocations, revoke}
 use Rattle.conflicts.proofs.Tests.{rests}
 use Rattle.locks.proofs.Revoked.{waits-same, presses-same}
@@ -68,9 +68,9 @@ module _ (n : ℕ) (t : List ℕ) (S : Shape n t) where
   pub sofar-none : (k : ℕ) (b : List ℕ) → Did n k (sofar (table_of width t) 0) b k t b
   sofar-none k b = subst (λ (l : List Lock). Did n k (fresh (with_locks (table_of width t) l)) b k t b) (sym (partly_none (revoked rows) rows)) (did_none n k t b S)
 
-  pub sofar-end : (j k : ℕ) (b u c : List ℕ) → Did n j (sofar (table_of width t) n) b k u c → Did n j (revoke (fresh (table_of width t))) b k u c
-  sofar-end j k b u c D =
-      let l : n ≡ length rows = sym (locks-length t ∙ S.count) in
+  pub sofar-end : (i j k : ℕ) (b u c : List ℕ) → i ≡ n → Did n j (sofar (table_of width t) i) b k u c → Did n j (revoke (fresh (table_of width t))) b k u c
+  sofar-end i j k b u c e D =
+      let l : i ≡ length rows = e ∙ sym (locks-length t ∙ S.count) in
       subst (λ (s : Settled). Did n j s b k u c)
       (ap (sofar (table_of width t)) l
       ∙ ap₂ {C = Settled} (λ (x y : List Lock). record { table = with_locks (table_of width t) x; events = map (λ r. revocation (in_state asked r)) (keep (wanted rows) y) }) (partly-all (revoked rows) rows) (take-length rows)) D
@@ -111,15 +111,15 @@ module _ (n : ℕ) (t : List ℕ) (S : Shape n t) where
           )
 
 -- where none waits there is nothing to do
-pub nothing-wanted : (n f k : ℕ) (t b : List ℕ) → Shape n t → First waits n (locks_of width t) f → n ≤ f → Did n k (revoke (fresh (table_of width t))) b k t b
-nothing-wanted n f k t b S F h =
+pub nothing-wanted : (n k : ℕ) (t b : List ℕ) → Shape n t → First waits n (locks_of width t) n → Did n k (revoke (fresh (table_of width t))) b k t b
+nothing-wanted n k t b S F =
     rw (map_same (revoked rs) (λ r. rw (unwanted r)) rs, keep-none (wanted rs) unwanted rs) (did_none n k t b S)
   where
     rs : List Lock
     rs = locks_of width t
 
     none-waits : any waits rs ≡ false
-    none-waits = ap (any waits) (sym (take_all f rs (let l = locks-length t in let c = S.count in omega arith))) ∙ F.past.none
+    none-waits = ap (any waits) (sym (take_all n rs (let l = locks-length t in let c = S.count in omega arith))) ∙ F.past.none
 
     unwanted : (r : Lock) → wanted rs r ≡ false
     unwanted r = ap (λ (x : Bool). eqb r.state granted && x) (none-imp waits (presses r) (rests r) rs none-waits) ∙ and-false (eqb r.state granted)

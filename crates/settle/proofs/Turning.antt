@@ -18,7 +18,7 @@ use Rattle.table.specs.Sound.{sound}
 use Rattle.table.specs.Bytes.{locks_of, table_of}
 use Rattle.table.specs.Places.{lock_at, Shape, Good}
 use Rattle.table.proofs.Facts.{Sound, sound→, →sound}
-use Rattle.table.proofs.Records.{locks-length, nth-is}
+use Rattle.table.proofs.Reading.{locks-length, nth-is}
 use Rattle.locks.specs.Conflicts.{obstacle}
 use Rattle.locks.specs.Settle.{Settled, grant, free, granting, turn, turns}
 use Rattle.locks.specs.Events.{Room}

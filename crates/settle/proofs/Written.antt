@@ -19,10 +19,10 @@ use Rattle.locks.specs.Events.{event_layout, event_fields, event_place}
 use Rattle.settle.specs.Posts.{put_events, fresh, Did}
 
 -- one event: its kind, and behind it what is shown of the record
-pub event-put : (b c d : List ℕ) (k kind : ℕ) (l : Lock) → c ≡ put_be 4 b (event_place k) kind → d ≡ put_fields (shown_layout width) c (event_place k + 4) 0 (shown_fields l)
+pub event-put : (b c d : List ℕ) (k v kind : ℕ) (l : Lock) → c ≡ put_be 4 b (event_place k) v → v ≡ kind → d ≡ put_fields (shown_layout width) c (event_place k + 4) 0 (shown_fields l)
     → d ≡ put_events b k (record { kind = kind; lock = l } ∷ [])
 unfolding put_elements put_fields
-event-put b c d k kind l e f = f ∙ put-fields-from (shown_layout width) c (event_place k) 4 0 (shown_fields l) ∙ rw (add-zero (event_place k), e) refl
+event-put b c d k v kind l e q f = f ∙ put-fields-from (shown_layout width) c (event_place k) 4 0 (shown_fields l) ∙ rw (add-zero (event_place k), e, q) refl
 
 pub events-then : (b : List ℕ) (k : ℕ) (es fs : List Event) → put_events b k (es ++ fs) ≡ put_events (put_events b k es) (k + length es) fs
 unfolding put_elements

@@ -1,4 +1,4 @@
-// Settling the table, in its bytes: the turns, then the revocations. Events are written behind those that stand there already.
+// Settling a lent table: the turns, then the revocations. Events are written behind those that stand in the buffer already.
 #![tactic(auto)]
 
 ghost use Rattle.std.specs.Prelude.{◌≡◌, [], ◌∷◌, ◌+◌, ◌^◌, ◌<◌, length};
@@ -9,158 +9,171 @@ ghost use Rattle.table.specs.Places.{lock_at, Shape, Good, Moded, Past, First};
 ghost use Rattle.locks.specs.Conflicts.{hurries};
 ghost use Rattle.locks.specs.Settle.{next_number, turn, turns, revoke, revocations, settle};
 ghost use Rattle.locks.specs.Events.{Room};
-ghost use Rattle.settle.specs.Posts.{granted_as, Took, Due, put_events, fresh, Did, revoke_at, Wanted};
+ghost use Rattle.settle.specs.Posts.{granted_as, Took, Due, number_of, FirstOf, put_events, fresh, Did, Leads, revoke_at, Wanted};
 
 use common::Number;
-use locks::{EVENT_BYTES, EVENTS, GRANT, KIND_BYTES, REVOCATION};
+use conflicts::Known;
+use locks::{EVENT_BYTES, EVENTS, KIND_BYTES};
 use modes::{ASKED, CANCELING, GRANTED, PR, WAITING};
-use table::{Lock, UNMARKED};
+use table::{Lock, Table, UNMARKED};
+
+// What an event tells of, with the number that stands in its bytes.
+#[derive(Clone, Copy)]
+enum Kind {
+    Grant = 1,
+    Revocation = 2,
+}
+
+// A buffer in which k events stand.
+#[derive(Drop)]
+pub struct Events<'a> {
+    pub bytes: &'a mut [u8],
+    pub k: usize,
+}
+
+impl<'a> Events<'a> {
+    // Writes an event behind those that stand there.
+    fn put(&mut self, kind: Kind, l: Lock)
+        requires { Room (self.old.k + 1) self.old.bytes.now }
+        ensures { (self.new.bytes.now ≡ put_events self.old.bytes.now self.old.k (record { kind = number_of kind; lock = l } ∷ [])) × (self.new.k ≡ self.old.k + 1) × (self.new.bytes.ghost_name ≡ self.old.bytes.ghost_name) }
+    {
+        let at = EVENTS + EVENT_BYTES * self.k;
+        xdr::put_number::<4>(self.bytes, at, kind as u64);
+        table::put_shown(self.bytes, at + KIND_BYTES, l);
+        self.k += 1;
+    }
+}
+
+// Table and events stay two parameters below: each is a struct with methods of its own, and one of both would only be taken apart again.
+
+// Lends a table whose modes are known for questions.
+fn known<'a>(t: &'a Table<'_>) -> Known<'a>
+    requires { Moded t.now.n t.now.bytes.now }
+    ensures { (result.n ≡ t.now.n) × (result.records.bytes.now ≡ t.now.bytes.now) }
+{
+    Known {
+        records: t.records(),
+        n: t.n,
+    }
+}
 
 // Makes of w, the record at place i, what it is granted as, with the number v.
-fn granted(t: &[u8], n: usize, i: usize, w: Lock, v: Number) -> Lock
-    requires { Moded n t.now × (i < n) × (w ≡ lock_at t.now i) × Past (hurries (lock_at t.now i)) n (locks_of width t.now) i }
-    ensures { result ≡ granted_as (locks_of width t.now) w v.0 }
+fn granted(known: &Known<'_>, i: usize, w: Lock, v: Number) -> Lock
+    requires { (i < known.now.n) × (w ≡ lock_at known.now.records.bytes.now i) × Past (hurries (lock_at known.now.records.bytes.now i)) known.now.n (locks_of width known.now.records.bytes.now) i }
+    ensures { result ≡ granted_as (locks_of width known.now.records.bytes.now) w v.0 }
 {
-    if conflicts::hurried(t, n, i) {
-        return table::remade(w, w.mode, CANCELING, v, w.last);
-    }
-    if w.mark != UNMARKED {
-        return table::remade(w, w.mode, GRANTED, v, w.last);
-    }
-    table::remade(w, w.mode, GRANTED, v, conflicts::reach(t, n, i))
+    let (state, last) = if known.hurried(i) {
+        (CANCELING, w.last)
+    } else if w.mark == UNMARKED {
+        (GRANTED, known.reach(i))
+    } else {
+        (GRANTED, w.last)
+    };
+    table::remade(w, w.mode, state, v, last)
 }
 
 // Takes the number for w's grant: 0 for PR, else its stripe's next, which becomes its last.
-fn take_number(t: &mut [u8], n: usize, w: Lock) -> Number
-    requires { Shape n t.old × (w.stripe < stripe_count) × (next_number (table_of width t.old).lasts w < 256 ^ width) }
-    ensures { Took n w (table_of width t.old) result.0 t.new }
+fn take_number(t: &mut Table<'_>, w: Lock) -> Number
+    requires { (w.stripe < stripe_count) × (next_number (table_of width t.old.bytes.now).lasts w < 256 ^ width) }
+    ensures { Took t.new.n w (table_of width t.old.bytes.now) result.0 t.new.bytes.now × (t.new.n ≡ t.old.n) × (t.new.bytes.ghost_name ≡ t.old.bytes.ghost_name) }
 {
     if w.mode == PR {
         return Number(0);
     }
     let s = w.stripe as usize;
-    let v = Number(table::last_of(t, s).0 + 1);
-    table::put_last(t, n, s, v);
+    let v = Number(t.records().last_of(s).0 + 1);
+    t.put_last(s, v);
     v
 }
 
-// Writes the event at place k.
-fn put_event(b: &mut [u8], k: usize, kind: u64, l: Lock)
-    requires { Room (k + 1) b.old }
-    ensures { b.new ≡ put_events b.old k (record { kind = kind; lock = l } ∷ []) }
+// Grants w, the record at place i, and writes its event.
+fn grant(t: &mut Table<'_>, e: &mut Events<'_>, i: usize, w: Lock)
+    requires { Due t.old.n i w t.old.bytes.now × Room (e.old.k + 1) e.old.bytes.now }
+    ensures { Leads t.old e.old (turn i (fresh (table_of width t.old.bytes.now))) t.new e.new }
 {
-    let at = EVENTS + EVENT_BYTES * k;
-    xdr::put_u32(b, at, kind);
-    table::put_shown(b, at + KIND_BYTES, l);
+    let v = take_number(t, w);
+    let g = granted(&known(t), i, w, v);
+    t.put_lock(i, g);
+    e.put(Kind::Grant, g);
 }
 
-// Grants w, the record at place i, and writes its event after k others.
-fn grant(t: &mut [u8], b: &mut [u8], n: usize, i: usize, w: Lock, k: usize)
-    requires { Due n i w t.old × Room (k + 1) b.old }
-    ensures { Did n k (turn i (fresh (table_of width t.old))) b.old (k + 1) t.new b.new }
+// Takes the turn of the record at place i.
+fn turn(t: &mut Table<'_>, e: &mut Events<'_>, i: usize)
+    requires { Good t.old.n t.old.bytes.now × (i < t.old.n) × Room (e.old.k + length (turn i (fresh (table_of width t.old.bytes.now))).events) e.old.bytes.now }
+    ensures { Leads t.old e.old (turn i (fresh (table_of width t.old.bytes.now))) t.new e.new }
 {
-    let v = take_number(t, n, w);
-    let g = granted(t, n, i, w, v);
-    table::put_lock(t, n, i, g);
-    put_event(b, k, GRANT, g);
+    if t.records().state(i) != WAITING || known(t).blocked(i) {
+        return;
+    }
+    let w = t.records().lock(i);
+    grant(t, e, i, w);
 }
 
-// Takes the turn of the record at place i, after k events; answers how many events there are now.
-fn turn(t: &mut [u8], b: &mut [u8], n: usize, i: usize, k: usize) -> usize
-    requires { Good n t.old × (i < n) × Room (k + length (turn i (fresh (table_of width t.old))).events) b.old }
-    ensures { Did n k (turn i (fresh (table_of width t.old))) b.old result t.new b.new }
+// Takes all turns.
+fn grants(t: &mut Table<'_>, e: &mut Events<'_>)
+    requires { Good t.old.n t.old.bytes.now × Room (e.old.k + length (turns t.old.n (table_of width t.old.bytes.now)).events) e.old.bytes.now }
+    ensures { Leads t.old e.old (turns t.old.n (table_of width t.old.bytes.now)) t.new e.new }
 {
-    if table::state_at(t, i) != WAITING {
-        return k;
+    for i in 0..t.n {
+        turn(t, e, i);
     }
-    if conflicts::blocked(t, n, i) {
-        return k;
-    }
-    let w = table::lock_at(t, i);
-    grant(t, b, n, i, w, k);
-    k + 1
-}
-
-// Takes all turns, after j events; answers how many events there are now.
-fn grants(t: &mut [u8], b: &mut [u8], n: usize, j: usize) -> usize
-    requires { Good n t.old × Room (j + length (turns n (table_of width t.old)).events) b.old }
-    ensures { Did n j (turns n (table_of width t.old)) b.old result t.new b.new }
-{
-    let mut k = j;
-    for i in 0..n {
-        k = turn(t, b, n, i, k);
-    }
-    k
 }
 
 // Finds the first record that waits.
-fn first_waiting(t: &[u8], n: usize) -> usize
-    requires { Shape n t.now }
-    ensures { First waits n (locks_of width t.now) result }
+fn first_waiting(t: &Table<'_>) -> Option<usize>
+    ensures { FirstOf waits t.now.n (locks_of width t.now.bytes.now) result }
 {
-    for i in 0..n {
-        if table::state_at(t, i) == WAITING {
-            return i;
-        }
-    }
-    n
+    let r = t.records();
+    (0..t.n).find(|i| r.state(*i) == WAITING)
 }
 
-// Makes r, the record at place i, asked, and writes its event after k others.
-fn ask(t: &mut [u8], b: &mut [u8], n: usize, i: usize, r: Lock, k: usize)
-    requires { Wanted n i r t.old × Room (k + 1) b.old }
-    ensures { Did n k (revoke_at i (table_of width t.old)) b.old (k + 1) t.new b.new }
+// Makes r, the record at place i, asked, and writes its event.
+fn ask(t: &mut Table<'_>, e: &mut Events<'_>, i: usize, r: Lock)
+    requires { Wanted t.old.n i r t.old.bytes.now × Room (e.old.k + 1) e.old.bytes.now }
+    ensures { Leads t.old e.old (revoke_at i (table_of width t.old.bytes.now)) t.new e.new }
 {
     let q = table::remade(r, r.mode, ASKED, r.number, r.last);
-    table::put_lock(t, n, i, q);
-    put_event(b, k, REVOCATION, q);
+    t.put_lock(i, q);
+    e.put(Kind::Revocation, q);
 }
 
-// Revokes the record at place i if it is wanted, after k events; answers how many events there are now.
-fn revoke(t: &mut [u8], b: &mut [u8], n: usize, f: usize, i: usize, k: usize) -> usize
-    requires { Moded n t.old × Past waits n (locks_of width t.old) f × (i < n) × Room (k + length (revoke_at i (table_of width t.old)).events) b.old }
-    ensures { Did n k (revoke_at i (table_of width t.old)) b.old result t.new b.new }
+// Revokes the record at place i if it is wanted; none waits before place f.
+fn revoke(t: &mut Table<'_>, e: &mut Events<'_>, f: usize, i: usize)
+    requires { Moded t.old.n t.old.bytes.now × Past waits t.old.n (locks_of width t.old.bytes.now) f × (i < t.old.n) × Room (e.old.k + length (revoke_at i (table_of width t.old.bytes.now)).events) e.old.bytes.now }
+    ensures { Leads t.old e.old (revoke_at i (table_of width t.old.bytes.now)) t.new e.new }
 {
-    if table::state_at(t, i) != GRANTED {
-        return k;
+    if t.records().state(i) != GRANTED || !known(t).pressed(f, i) {
+        return;
     }
-    if !conflicts::pressed(t, n, f, i) {
-        return k;
-    }
-    let r = table::lock_at(t, i);
-    ask(t, b, n, i, r, k);
-    k + 1
+    let r = t.records().lock(i);
+    ask(t, e, i, r);
 }
 
-// Revokes each record that is wanted, after j events; answers how many events there are now.
-fn revokes(t: &mut [u8], b: &mut [u8], n: usize, f: usize, j: usize) -> usize
-    requires { Moded n t.old × Past waits n (locks_of width t.old) f × Room (j + length (revocations (locks_of width t.old))) b.old }
-    ensures { Did n j (revoke (fresh (table_of width t.old))) b.old result t.new b.new }
+// Revokes each record that is wanted; none waits before place f.
+fn revokes(t: &mut Table<'_>, e: &mut Events<'_>, f: usize)
+    requires { Moded t.old.n t.old.bytes.now × Past waits t.old.n (locks_of width t.old.bytes.now) f × Room (e.old.k + length (revocations (locks_of width t.old.bytes.now))) e.old.bytes.now }
+    ensures { Leads t.old e.old (revoke (fresh (table_of width t.old.bytes.now))) t.new e.new }
 {
-    let mut k = j;
-    for i in 0..n {
-        k = revoke(t, b, n, f, i, k);
+    for i in 0..t.n {
+        revoke(t, e, f, i);
     }
-    k
 }
 
-// Revokes what the waiting requests want, after j events: nothing where none waits.
-fn revocations(t: &mut [u8], b: &mut [u8], n: usize, j: usize) -> usize
-    requires { Moded n t.old × Room (j + length (revocations (locks_of width t.old))) b.old }
-    ensures { Did n j (revoke (fresh (table_of width t.old))) b.old result t.new b.new }
+// Revokes what the waiting requests want: nothing where none waits.
+fn revocations(t: &mut Table<'_>, e: &mut Events<'_>)
+    requires { Moded t.old.n t.old.bytes.now × Room (e.old.k + length (revocations (locks_of width t.old.bytes.now))) e.old.bytes.now }
+    ensures { Leads t.old e.old (revoke (fresh (table_of width t.old.bytes.now))) t.new e.new }
 {
-    let f = first_waiting(t, n);
-    if n <= f {
-        return j;
+    if let Some(f) = first_waiting(t) {
+        revokes(t, e, f);
     }
-    revokes(t, b, n, f, j)
 }
 
-// Settles the table of n records, writes the events after j others, and answers how many events there are now.
-pub fn settle(t: &mut [u8], b: &mut [u8], n: usize, j: usize) -> usize
-    requires { Good n t.old × Room (j + length (settle (table_of width t.old)).events) b.old }
-    ensures { Did n j (settle (table_of width t.old)) b.old result t.new b.new }
+// Settles the table, and writes the events behind those that stand there already.
+pub fn settle(t: &mut Table<'_>, e: &mut Events<'_>)
+    requires { Good t.old.n t.old.bytes.now × Room (e.old.k + length (settle (table_of width t.old.bytes.now)).events) e.old.bytes.now }
+    ensures { Leads t.old e.old (settle (table_of width t.old.bytes.now)) t.new e.new }
 {
-    let k = grants(t, b, n, j);
-    revocations(t, b, n, k)
+    grants(t, e);
+    revocations(t, e);
 }

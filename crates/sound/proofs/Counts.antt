@@ -3,12 +3,13 @@ use Prim.Native.Nat.{ℕ, ◌+◌, ◌≤◌, ◌<◌}
 use mathlib.Core.Bool.{Bool, true, false, ◌&&◌, cond}
 use mathlib.Core.List.{List, [], ◌∷◌}
 use mathlib.Core.Path.{◌≡◌, refl, sym, subst, ◌∙◌}
-use native.Mathlib.Nat.{add-zero, zero-add}
+use native.Mathlib.Nat.{add-zero}
 use native.Mathlib.Omega.{arith}
 use lib.Dec.{T, eqb, eqb→eq}
-use lib.ListN.{length, get_or, set, drop, replicate, length-set, length-replicate, get_or-replicate}
+use lib.ListN.{length, get_or, set, drop, length-set}
 use lib.Seq.{get_or-set_same, get_or-set_other}
 use borrow.Author.Tests.{eq-eqb}
+use Rattle.std.specs.Int.{from_bool}
 use Rattle.common.specs.Tests.{count}
 use Rattle.common.proofs.Bools.{never}
 use Rattle.table.specs.declared.Lock.{Lock}
@@ -36,8 +37,8 @@ module _ (ks : List ℕ) (rs : List Lock) (r : Lock) (j : ℕ) where
       go false q =
           get_or-set_other ks r.stripe s (get_or ks r.stripe 0 + j) 0 (λ z. never (sym q ∙ eq-eqb r.stripe s (sym z))) ∙ sym (add-zero (get_or ks s 0))
 
-  pub one_more : (i : ℕ) → Tallied i ks rs → drop i rs ≡ r ∷ drop (i + 1) rs → r.stripe < stripe_count → j ≡ cond (waits r && writes r) 1 0 → j ≤ 1 → Tallied (i + 1) raised rs
-  one_more i C e h f m = record {
+  pub one_more : (i : ℕ) → Tallied i ks rs → drop i rs ≡ r ∷ drop (i + 1) rs → r.stripe < stripe_count → j ≡ cond (waits r && writes r) 1 0 → Tallied (i + 1) raised rs
+  one_more i C e h f = record {
     long = length-set ks r.stripe (get_or ks r.stripe 0 + j) ∙ C.long;
     few = λ s p. let k = C.few s p in let z = at_own s own in let y = most (eqb r.stripe s) in omega arith;
     left = λ s p.
@@ -47,8 +48,12 @@ module _ (ks : List ℕ) (rs : List Lock) (r : Lock) (j : ℕ) where
       own : r.stripe < length ks
       own = let l = C.long in omega arith
 
+      bit : (w : Bool) → cond w 1 0 ≤ 1
+      bit true = omega arith
+      bit false = omega arith
+
       most : (b : Bool) → cond b j 0 ≤ 1
-      most true = m
+      most true = rw f (bit (waits r && writes r))
       most false = omega arith
 
       counts : (w b : Bool) → j ≡ cond w 1 0 → cond b j 0 ≡ cond (w && b) 1 0
@@ -57,13 +62,14 @@ module _ (ks : List ℕ) (rs : List Lock) (r : Lock) (j : ℕ) where
       counts false true f = f
       counts false false f = refl
 
-pub none_yet : (rs : List Lock) → Tallied 0 (replicate {A = ℕ} stripe_count 0) rs
-none_yet rs = record {
-  long = length-replicate {A = ℕ} stripe_count 0;
-  few = λ s p. let z = get_or-replicate {A = ℕ} stripe_count s 0 0 p in omega arith;
-  left = λ s p. rw (get_or-replicate {A = ℕ} stripe_count s 0 0 p) (zero-add (count (wants s) rs));
-}
-
 -- at the end they speak of all records
 pub tallied : (n : ℕ) (ks : List ℕ) (rs : List Lock) → Tallied n ks rs → drop n rs ≡ [] → (s : ℕ) → s < stripe_count → get_or ks s 0 ≡ count (wants s) rs
 tallied n ks rs C e s h = count-done (wants s) _ (get_or ks s 0) e (C.left s h)
+
+-- a test as a number
+pub one_or_none : (r : Lock) → from_bool (waits r && writes r) ≡ cond (waits r && writes r) 1 0
+one_or_none r = go (waits r && writes r)
+  where
+    go : (b : Bool) → from_bool b ≡ cond b 1 0
+    go true = refl
+    go false = refl

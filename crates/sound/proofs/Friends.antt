@@ -1,12 +1,11 @@
 -- `friends_at`: each test that leaves early decides what two records are to each other.
-use Prim.Native.Nat.{ℕ, ◌+◌, ◌^◌, ◌≤◌, ◌<◌}
-use mathlib.Core.Bool.{Bool, true, false, not, ◌&&◌, ◌||◌, cond, and-true, and-false, or-false}
+use Prim.Native.Nat.{ℕ, ◌≤◌, ◌<◌}
+use mathlib.Core.Bool.{Bool, true, false, not, ◌&&◌, ◌||◌, and-true, and-false, or-false}
 use mathlib.Core.Logic.{⊎_elim}
 use mathlib.Core.Path.{◌≡◌, refl, sym, ap, ap₂, ◌∙◌}
 use native.Mathlib.Omega.{arith}
 use lib.Dec.{leb, eqb}
 use borrow.Author.Tests.{eq-eqb, ne_eqb, lt-leb, le-leb, lt-ltb, le-ltb}
-use Rattle.common.specs.Counters.{width, highest}
 use Rattle.common.specs.Ranges.{overlap, within}
 use Rattle.common.specs.Tests.{implies}
 use Rattle.common.proofs.Bools.{never}
@@ -14,7 +13,7 @@ use Rattle.common.proofs.Order.{below}
 use Rattle.table.specs.declared.Lock.{Lock}
 use Rattle.table.specs.Table.{number_of, waits, held, writes}
 use Rattle.table.specs.Sound.{together, yields, differ}
-use Rattle.sound.specs.Parts.{friendly, owned, smaller_yields}
+use Rattle.sound.specs.Parts.{friendly, smaller_yields}
 
 -- two records that are together or not, write, have different numbers, meet, are clear of each other
 abbrev allow : Bool → Bool → Bool → Bool → Bool → Bool
@@ -48,9 +47,6 @@ module _ (a b : Lock) where
 
   pub first-waits : true ≡ waits a → true ≡ friendly a b
   first-waits e = apart (ap (λ (x : Bool). (not x && held b) && eqb a.stripe b.stripe) (sym e))
-
-  pub is_held : a ≡ b → waits b ≡ false → a.state ≡ 0 → ⊥
-  is_held e w z = never (sym w ∙ ap waits (sym e) ∙ eq-eqb a.state 0 z)
 
   pub second-waits : (s : ℕ) → s ≡ b.state → s ≡ 0 → true ≡ friendly a b
   second-waits s e z =
@@ -91,31 +87,6 @@ module _ (a b : Lock) where
 module _ (a b : Lock) (s : ℕ) (es : s ≡ b.stripe) (qs : s ≡ a.stripe) (h : a.state ≡ 0 → ⊥) where
   joined : together a b ≡ held b
   joined = rw (ne_eqb a.state 0 h, eq-eqb a.stripe b.stripe (sym qs ∙ es)) (and-true (held b))
-
-  -- the numbers
-  module _ (n : ℕ) (en : n ≡ number_of b) (l : n < 256 ^ width) where
-    pub other-number : (n ≡ owned a → ⊥) → true ≡ differ a b
-    other-number q = go (eqb a.mode 1) (λ e. q (e ∙ refl))
-      where
-        go : (x : Bool) → (n ≡ cond x (highest width + 1) (number_of a) → ⊥) → true ≡ implies (together a b && (not x && writes b)) (unlike a b)
-        go true k = sym (ap (λ (y : Bool). implies y (unlike a b)) (and-false (together a b)))
-        go false k =
-            sym (ap (λ (y : Bool). implies (together a b && writes b) (not y)) (ne_eqb (number_of a) (number_of b) (λ e. k (en ∙ sym e))) ∙ always (together a b && writes b))
-
-    pub own-number : (st m : ℕ) → st ≡ b.state → m ≡ b.mode → n ≡ owned a → (eqb st 0 || eqb m 1) ≡ differ a b
-    own-number st m et em q =
-        ap₂ (λ (x y : ℕ). eqb x 0 || eqb y 1) et em
-        ∙ sym (ap (λ (x : Bool). implies (x && (writes a && writes b)) (unlike a b)) joined ∙ go (eqb a.mode 1) q)
-      where
-        no : (x y : Bool) → implies (not x && not y) false ≡ (x || y)
-        no true y = refl
-        no false true = refl
-        no false false = refl
-
-        go : (x : Bool) → n ≡ cond x (highest width + 1) (number_of a) → implies (held b && (not x && writes b)) (unlike a b) ≡ (eqb b.state 0 || eqb b.mode 1)
-        go true k = absurd (let z : ⊥ = omega arith in z)
-        go false k =
-            ap (λ (y : Bool). implies (held b && writes b) (not y)) (eq-eqb (number_of a) (number_of b) (sym k ∙ en)) ∙ no (eqb b.state 0) (eqb b.mode 1)
 
   -- not both PR, both held, and a byte in common
   module _ (m n st f l : ℕ) (em : m ≡ b.mode) (en : n ≡ number_of b) (et : st ≡ b.state) (ef : f ≡ b.first) (el : l ≡ b.last)

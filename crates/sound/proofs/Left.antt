@@ -1,19 +1,25 @@
 -- The loops: what a loop has found, with what is left of the list, is what the whole list has.
 use Prim.Native.Nat.{ℕ, suc, ◌+◌, ◌-◌, ◌≤◌, ◌<◌}
-use mathlib.Core.Bool.{Bool, true, false, ◌&&◌, cond, and-true, and-false, and_assoc}
+use mathlib.Core.Bool.{Bool, true, false, ◌&&◌, cond, and-false, and_assoc}
 use mathlib.Core.List.{List, [], ◌∷◌}
 use mathlib.Core.Path.{◌≡◌, sym, ap, ◌∙◌}
 use native.Mathlib.Numerals.{add-one}
 use native.Mathlib.Omega.{arith}
 use lib.ListN.{drop}
-use borrow.Author.Tests.{lt-ltb, le-ltb}
+use borrow.Author.Tests.{lt-ltb, le-ltb, lt-leb, le-leb}
+use mathlib.Core.Logic.{⊎_elim}
+use lib.Dec.{leb}
+use Rattle.std.proofs.Common.{Less, Equal, Greater}
+use Rattle.std.specs.Ordering.{is_le, nat_cmp}
+use Rattle.std.specs.Cmp.{nat_cmp_is}
+use Rattle.common.proofs.Order.{below}
 use Rattle.common.specs.Counters.{width}
 use Rattle.common.specs.Tests.{all, count, up_from}
 use Rattle.table.specs.declared.Lock.{Lock}
 use Rattle.table.specs.Table.{handle_of, stripe_count}
 use Rattle.table.specs.Bytes.{locks_of}
 use Rattle.table.specs.Places.{lock_at}
-use Rattle.table.proofs.Records.{locks-from, locks-end}
+use Rattle.table.proofs.Reading.{locks-from, locks-end}
 use Rattle.sound.specs.Parts.{Sized, climbs}
 
 -- what is left of the records, of the stripes
@@ -32,17 +38,11 @@ stripes-from s h =
     let e : stripe_count - s ≡ suc (stripe_count - (s + 1)) = omega arith in
     ap (up_from s) e ∙ ap (λ (k : ℕ). s ∷ up_from k (stripe_count - (s + 1))) (sym (add-one s))
 
-pub stripes-end : (s : ℕ) → stripe_count ≤ s → stripes_from s ≡ []
-stripes-end s h = let e : stripe_count - s ≡ 0 = omega arith in ap (up_from s) e
-
 -- a test of each element
 module _ {A : Type 0} (p : A → Bool) (w ok : Bool) where
   pub all_more : {l m : List A} (x : A) (b : Bool) → l ≡ x ∷ m → b ≡ p x → (ok && all p l) ≡ w → ((ok && b) && all p m) ≡ w
   all_more {m = m} x b e h q =
       and_assoc ok b (all p m) ∙ ap (λ (y : Bool). ok && (y && all p m)) h ∙ ap (λ (l : List A). ok && all p l) (sym e) ∙ q
-
-  pub all_done : {l : List A} → l ≡ [] → (ok && all p l) ≡ w → ok ≡ w
-  all_done e q = sym (and-true ok) ∙ ap (λ (l : List A). ok && all p l) (sym e) ∙ q
 
 -- a count
 module _ {A : Type 0} (p : A → Bool) (w k : ℕ) where
@@ -74,3 +74,15 @@ module _ (p : Lock → Bool) (w o : Bool) (b : ℕ) {l m : List Lock} (r : Lock)
 pub each-done : (p : Lock → Bool) (w o : Bool) (b : ℕ) {l : List Lock} (k : Bool) → k ≡ o → l ≡ [] → (all p l && climbs b l) ≡ w → k ≡ (w && o)
 unfolding climbs
 each-done p w o b k h e q = h ∙ ap (λ (x : Bool). x && o) (rw e at q)
+
+-- the order of two counters, as the test of their numbers
+pub cmp-leb : (a b : ℕ) → is_le (nat_cmp a b) ≡ leb a b
+cmp-leb a b =
+    ⊎_elim
+    (λ (h : a < b). sym (ap is_le (nat_cmp_is a b Less h)) ∙ sym (le-leb a b (omega arith)))
+    (λ (h : b ≤ a).
+    ⊎_elim
+    (λ (k : b < a). sym (ap is_le (nat_cmp_is a b Greater k)) ∙ sym (lt-leb a b k))
+    (λ (k : a ≤ b). sym (ap is_le (nat_cmp_is a b Equal (omega arith))) ∙ sym (le-leb a b k))
+    (below b a))
+    (below a b)

@@ -23,13 +23,6 @@ module _ (ls : List ℕ) (l : Lock) where
       go false true = refl
       go false false = refl
 
-  pub is_zero : (eqb l.state 0 || eqb l.mode 1) ≡ true → eqb (number_of l) 0 ≡ numbered ls l
-  is_zero e = sym (either true e)
-
-  pub is-counted : (last : ℕ) → (eqb l.state 0 || eqb l.mode 1) ≡ false → last ≡ get_or ls l.stripe 0
-      → (leb 1 (number_of l) && leb (number_of l) last) ≡ numbered ls l
-  is-counted last e h = rw h (sym (either false e))
-
   pub is-nowhere : (eqb l.state 0 || eqb l.mode 1) ≡ false → length ls ≡ stripe_count → 15 < l.stripe → false ≡ numbered ls l
   is-nowhere e n h = sym (either false e ∙ ap (within 1 (number_of l)) (get_or-eq_default ls 0 (omega arith)) ∙ none (number_of l))
     where

@@ -15,7 +15,7 @@ use Rattle.table.specs.Sound.{valid, agree, room, stripes, sound}
 use Rattle.table.specs.Bytes.{table_size, table_of, locks_of, records_end, sound_table_bytes}
 use Rattle.table.specs.Places.{lock_place, count_of}
 use Rattle.table.proofs.Facts.{sound→, →sound}
-use Rattle.table.proofs.Records.{locks-length, lasts-length}
+use Rattle.table.proofs.Reading.{locks-length, lasts-length}
 use Rattle.sound.specs.Parts.{friendly, climbs, each_sound}
 use Rattle.sound.proofs.Handles.{alike, paired}
 

@@ -35,10 +35,8 @@ each_sound issued t = (all (valid issued t.lasts) t.locks && climbs 0 t.locks) &
 abbrev pub owned : Lock → ℕ
 owned a = cond (eqb a.mode pr) (highest width + 1) (number_of a)
 
--- a held record a with the number that it owns faces place j of a table's bytes
-pub record Faces (a : Lock) (own j : ℕ) (t : List ℕ) : Type 0 where
-  pub size : length t ≡ table_size width
-  pub place : j < max_records
+-- a is held, and owns this number
+pub record Owns (a : Lock) (own : ℕ) : Type 0 where
   pub held : a.state ≡ waiting → ⊥
   pub owns : own ≡ owned a
 

@@ -13,7 +13,7 @@ use Rattle.table.specs.declared.Lock.{Lock}
 use Rattle.table.specs.Table.{Table, max_records}
 use Rattle.table.specs.Bytes.{array_at, locks_of, table_of}
 use Rattle.table.specs.Places.{lock_at, Shape, Holds, with_lock, with_locks}
-use Rattle.table.proofs.Records.{locks-tab, locks-length}
+use Rattle.table.proofs.Reading.{locks-tab, locks-length}
 use Rattle.table.proofs.Stores.{recounted}
 
 module _ (n : ℕ) (t : List ℕ) (T : Shape n t) (h : n < max_records) where

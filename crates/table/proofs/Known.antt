@@ -14,7 +14,7 @@ use Rattle.table.specs.declared.Lock.{Lock}
 use Rattle.table.specs.Table.{blank}
 use Rattle.table.specs.Bytes.{lock_layout, locks_of}
 use Rattle.table.specs.Places.{lock_place, lock_at, Moded, moded}
-use Rattle.table.proofs.Records.{inside, nth-is}
+use Rattle.table.proofs.Reading.{inside, nth-is}
 
 known : (n i : ℕ) (t : List ℕ) → Moded n t → i < n → T (moded (lock_at t i))
 known n i t F h =

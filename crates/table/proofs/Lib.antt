@@ -1,5 +1,5 @@
 pub mod Facts
-pub mod Records
+pub mod Reading
 pub mod Stores
 pub mod Adding
 pub mod Removing

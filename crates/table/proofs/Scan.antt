@@ -16,7 +16,7 @@ use Rattle.table.specs.declared.Lock.{Lock}
 use Rattle.table.specs.Table.{blank}
 use Rattle.table.specs.Bytes.{locks_of}
 use Rattle.table.specs.Places.{lock_at, Shape, Past, First}
-use Rattle.table.proofs.Records.{locks-length, locks-at, inside}
+use Rattle.table.proofs.Reading.{locks-length, locks-at, inside}
 
 -- the record at place i answers b
 module _ (n i : ℕ) (t : List ℕ) where
@@ -42,13 +42,6 @@ module _ (n i : ℕ) (t : List ℕ) where
     -- the first to answer yes, or none
     pub scan-first : Shape n t → i < n → p (lock_at t i) ≡ true → Past p n (locks_of width t) i → First p n (locks_of width t) i
     scan-first S h f s = record { past = s; here = λ k. subst T (sym (ap p (here S h) ∙ f)) tt }
-
--- a field x, read as v, is k or is not
-pub reads : (v x k : ℕ) → v ≡ x → v ≡ k → eqb x k ≡ true
-reads v x k e f = eq-eqb x k (sym e ∙ f)
-
-pub reads-not : (v x k : ℕ) → v ≡ x → (v ≡ k → ⊥) → eqb x k ≡ false
-reads-not v x k e f = ne_eqb x k (λ g. f (e ∙ g))
 
 pub scan-none : (n i : ℕ) (rs : List Lock) (p : Lock → Bool) → n ≤ i → Past p n rs i → First p n rs n
 scan-none n i rs p h s = let q : i ≡ n = omega (arith, s.most) in record { past = rw q at s; here = λ k. absurd (let z : ⊥ = omega arith in z) }

@@ -16,7 +16,7 @@ use Rattle.table.specs.declared.Lock.{Lock}
 use Rattle.table.specs.Table.{Table, stripe_count, max_records}
 use Rattle.table.specs.Bytes.{shown_layout, shown_fields, lock_layout, lock_fields, lock_of, lasts_layout, array_at, locks_of, table_of}
 use Rattle.table.specs.Places.{last_place, lock_place, lock_at, count_of, LockFits, Shape, Holds, with_issued, with_last, with_lock, with_locks}
-use Rattle.table.proofs.Records.{locks-tab, lock-ext, lasts-tab}
+use Rattle.table.proofs.Reading.{locks-tab, lock-ext, lasts-tab}
 
 -- the bytes of t and u agree but in the k from a on
 abbrev pub Beside : ℕ → ℕ → List ℕ → List ℕ → Type 0

@@ -15,7 +15,7 @@ use Rattle.xdr.proofs.Fields.{fields-inj}
 use Rattle.table.specs.Table.{Table, blank}
 use Rattle.table.specs.Bytes.{lock_layout, lasts_layout, array_at, table_of}
 use Rattle.table.specs.Places.{lock_place, lock_at, count_of, Holds}
-use Rattle.table.proofs.Records.{locks-length, locks-at, lock-inj}
+use Rattle.table.proofs.Reading.{locks-length, locks-at, lock-inj}
 
 pub holds-unique : (n m : ℕ) (X : Table) (u v : List ℕ) → Holds n X u → Holds m X v → Bytes u → Bytes v → u ≡ v
 holds-unique n m X u v U W p q =

@@ -20,7 +20,7 @@ use Rattle.table.specs.Sound.{room, sound}
 use Rattle.table.specs.Bytes.{lock_layout, lock_of, lasts_layout, array_at, table_size, table_of, records_end, sound_table_bytes}
 use Rattle.table.specs.Places.{lock_place, count_of, Holds, Good}
 use Rattle.table.proofs.Facts.{sound→}
-use Rattle.table.proofs.Records.{locks-length}
+use Rattle.table.proofs.Reading.{locks-length}
 
 pub bytes-sound : (t : List ℕ) → sound_table_bytes t ≡ true → T (sound (table_of width t))
 unfolding sound_table_bytes

@@ -4,7 +4,7 @@
 ghost use Rattle.std.specs.Prelude.{◌≡◌, [], ◌∷◌, ◌++◌, ◌+◌, ◌-◌, ◌^◌, ◌≤◌, ◌<◌, length};
 ghost use Rattle.common.specs.Counters.{width};
 ghost use Rattle.xdr.specs.Layout.{fields, put_fields, size};
-ghost use Rattle.table.specs.Table.{blank, remade, with_mark, handle_of, number_of, last_of, stripe_count, max_records};
+ghost use Rattle.table.specs.Table.{remade, with_mark, handle_of, number_of, last_of, stripe_count, max_records};
 ghost use Rattle.table.specs.Bytes.{shown_layout, shown_fields, shown_of, table_size, table_of};
 ghost use Rattle.table.specs.Places.{lock_place, lock_at, count_of, ShownFits, LockFits, Shape, Holds, Moded};
 ghost use Rattle.table.specs.Places.{with_issued, with_last, with_lock, with_locks, without};
@@ -20,7 +20,7 @@ pub const STRIPES: usize = 16;
 
 pub const MAX_RECORDS: usize = 256;
 
-// The marks of a record.
+// The marks of a record: numbers in it, as its mode and its state are.
 pub const UNMARKED: u64 = 0;
 
 pub const MARKED: u64 = 1;
@@ -77,17 +77,13 @@ pub struct Lock {
 pub fn remade(l: Lock, mode: u64, state: u64, number: Number, last: u64) -> Lock
     ensures { result ≡ remade l mode state number.0 last }
 {
-    let h = l.handle;
     Lock {
-        handle: h,
-        client: l.client,
-        stripe: l.stripe,
-        mode: mode,
-        state: state,
-        number: number,
-        first: l.first,
-        last: last,
+        mode,
+        state,
+        number,
+        last,
         mark: UNMARKED,
+        ..l
     }
 }
 
@@ -95,55 +91,45 @@ pub fn remade(l: Lock, mode: u64, state: u64, number: Number, last: u64) -> Lock
 fn with_mark(l: Lock, mark: u64) -> Lock
     ensures { result ≡ with_mark l mark }
 {
-    let h = l.handle;
-    let n = l.number;
-    Lock {
-        handle: h,
-        client: l.client,
-        stripe: l.stripe,
-        mode: l.mode,
-        state: l.state,
-        number: n,
-        first: l.first,
-        last: l.last,
-        mark: mark,
-    }
+    Lock { mark, ..l }
 }
 
 // Reads what is shown of a record in the bytes from `at` on.
+#[tactic(auto, unfolding(xdr::specs::Layout::fields))]
 pub fn shown_at(s: &[u8], at: usize) -> Lock
     requires { at + size (shown_layout width) ≤ length s.now }
     ensures { (result ≡ shown_of (fields (shown_layout width) s.now at 0)) × ShownFits result }
 {
     Lock {
         handle: Handle(common::counter_at(s, at + HANDLE)),
-        client: xdr::u32_at(s, at + CLIENT),
-        stripe: xdr::u32_at(s, at + STRIPE),
-        mode: xdr::u32_at(s, at + MODE),
-        state: xdr::u32_at(s, at + STATE),
+        client: xdr::number_at::<4>(s, at + CLIENT),
+        stripe: xdr::number_at::<4>(s, at + STRIPE),
+        mode: xdr::number_at::<4>(s, at + MODE),
+        state: xdr::number_at::<4>(s, at + STATE),
         number: Number(common::counter_at(s, at + NUMBER)),
-        first: xdr::u64_at(s, at + FIRST),
-        last: xdr::u64_at(s, at + LAST),
+        first: xdr::number_at::<8>(s, at + FIRST),
+        last: xdr::number_at::<8>(s, at + LAST),
         mark: 0,
     }
 }
 
 // Stores what is shown of a record in the bytes from `at` on.
+#[tactic(auto, unfolding(xdr::specs::Layout::put_fields))]
 pub fn put_shown(s: &mut [u8], at: usize, l: Lock)
     requires { at + size (shown_layout width) ≤ length s.old }
     ensures { s.new ≡ put_fields (shown_layout width) s.old at 0 (shown_fields l) }
 {
     common::put_counter(s, at + HANDLE, l.handle.0);
-    xdr::put_u32(s, at + CLIENT, l.client);
-    xdr::put_u32(s, at + STRIPE, l.stripe);
-    xdr::put_u32(s, at + MODE, l.mode);
-    xdr::put_u32(s, at + STATE, l.state);
+    xdr::put_number::<4>(s, at + CLIENT, l.client);
+    xdr::put_number::<4>(s, at + STRIPE, l.stripe);
+    xdr::put_number::<4>(s, at + MODE, l.mode);
+    xdr::put_number::<4>(s, at + STATE, l.state);
     common::put_counter(s, at + NUMBER, l.number.0);
-    xdr::put_u64(s, at + FIRST, l.first);
-    xdr::put_u64(s, at + LAST, l.last);
+    xdr::put_number::<8>(s, at + FIRST, l.first);
+    xdr::put_number::<8>(s, at + LAST, l.last);
 }
 
-// Finds where the record at place i starts, which is where i records end.
+// Finds where the record at place i starts, which is where i records end: by numbers of its own, as `runbytes` does by the runs'.
 pub fn place(i: usize) -> usize
     requires { i ≤ max_records }
     ensures { result ≡ lock_place i }
@@ -151,174 +137,181 @@ pub fn place(i: usize) -> usize
     RECORDS + RECORD_BYTES * i
 }
 
-// Reads the record at place i.
-pub fn lock_at(t: &[u8], i: usize) -> Lock
-    requires { (length t.now ≡ table_size width) × (i < max_records) }
-    ensures { (result ≡ lock_at t.now i) × LockFits result }
-{
-    let at = place(i);
-    with_mark(shown_at(t, at), xdr::u32_at(t, at + MARK))
+// The bytes of a table, of the right length, lent for reading. Whether their records are sound is not known.
+#[derive(Clone, Copy)]
+pub struct Records<'a> {
+    pub bytes: &'a [u8],
+    ghost size: { length bytes.now ≡ table_size width },
 }
 
-// Reads the handle of the record at place i.
-pub fn handle_at(t: &[u8], i: usize) -> Handle
-    requires { (length t.now ≡ table_size width) × (i < max_records) }
-    ensures { result.0 ≡ handle_of (lock_at t.now i) }
-{
-    Handle(common::counter_at(t, place(i) + HANDLE))
-}
+// Each reader says by its name which field it reads. They are a line each, and one for all fields would be no shorter to call.
+impl<'a> Records<'a> {
+    // Reads the number of records.
+    pub fn count(&self) -> usize
+        ensures { result ≡ count_of self.now.bytes.now }
+    {
+        xdr::number_at::<4>(self.bytes, COUNT) as usize
+    }
 
-// Reads the client of the record at place i.
-pub fn client_at(t: &[u8], i: usize) -> u64
-    requires { (length t.now ≡ table_size width) × (i < max_records) }
-    ensures { result ≡ (lock_at t.now i).client }
-{
-    xdr::u32_at(t, place(i) + CLIENT)
-}
+    // Reads how many handles are issued.
+    pub fn issued(&self) -> u64
+        ensures { (result ≡ (table_of width self.now.bytes.now).issued) × (result < 256 ^ width) }
+    {
+        common::counter_at(self.bytes, ISSUED)
+    }
 
-// Reads the stripe of the record at place i.
-pub fn stripe_at(t: &[u8], i: usize) -> u64
-    requires { (length t.now ≡ table_size width) × (i < max_records) }
-    ensures { result ≡ (lock_at t.now i).stripe }
-{
-    xdr::u32_at(t, place(i) + STRIPE)
-}
+    // Reads the last number of stripe s.
+    pub fn last_of(&self, s: usize) -> Number
+        requires { s < stripe_count }
+        ensures { (result.0 ≡ last_of (table_of width self.now.bytes.now) s) × (result.0 < 256 ^ width) }
+    {
+        Number(common::counter_at(self.bytes, LASTS + COUNTER_BYTES * s))
+    }
 
-// Reads the mode of the record at place i.
-pub fn mode_at(t: &[u8], i: usize) -> u64
-    requires { (length t.now ≡ table_size width) × (i < max_records) }
-    ensures { result ≡ (lock_at t.now i).mode }
-{
-    xdr::u32_at(t, place(i) + MODE)
-}
+    // Reads the record at place i.
+    pub fn lock(&self, i: usize) -> Lock
+        requires { i < max_records }
+        ensures { (result ≡ lock_at self.now.bytes.now i) × LockFits result }
+    {
+        let at = place(i);
+        with_mark(
+            shown_at(self.bytes, at),
+            xdr::number_at::<4>(self.bytes, at + MARK),
+        )
+    }
 
-// Reads the state of the record at place i.
-pub fn state_at(t: &[u8], i: usize) -> u64
-    requires { (length t.now ≡ table_size width) × (i < max_records) }
-    ensures { result ≡ (lock_at t.now i).state }
-{
-    xdr::u32_at(t, place(i) + STATE)
-}
+    // Reads the handle of the record at place i.
+    pub fn handle(&self, i: usize) -> Handle
+        requires { i < max_records }
+        ensures { result.0 ≡ handle_of (lock_at self.now.bytes.now i) }
+    {
+        Handle(common::counter_at(self.bytes, place(i) + HANDLE))
+    }
 
-// Reads the number of the record at place i.
-pub fn number_at(t: &[u8], i: usize) -> Number
-    requires { (length t.now ≡ table_size width) × (i < max_records) }
-    ensures { (result.0 ≡ number_of (lock_at t.now i)) × (result.0 < 256 ^ width) }
-{
-    Number(common::counter_at(t, place(i) + NUMBER))
-}
+    // Reads the stripe of the record at place i.
+    pub fn stripe(&self, i: usize) -> u64
+        requires { i < max_records }
+        ensures { result ≡ (lock_at self.now.bytes.now i).stripe }
+    {
+        xdr::number_at::<4>(self.bytes, place(i) + STRIPE)
+    }
 
-// Reads the first byte of the record at place i.
-pub fn first_at(t: &[u8], i: usize) -> u64
-    requires { (length t.now ≡ table_size width) × (i < max_records) }
-    ensures { result ≡ (lock_at t.now i).first }
-{
-    xdr::u64_at(t, place(i) + FIRST)
-}
+    // Reads the mode of the record at place i.
+    pub fn mode(&self, i: usize) -> u64
+        requires { i < max_records }
+        ensures { result ≡ (lock_at self.now.bytes.now i).mode }
+    {
+        xdr::number_at::<4>(self.bytes, place(i) + MODE)
+    }
 
-// Reads the last byte of the record at place i.
-pub fn last_at(t: &[u8], i: usize) -> u64
-    requires { (length t.now ≡ table_size width) × (i < max_records) }
-    ensures { result ≡ (lock_at t.now i).last }
-{
-    xdr::u64_at(t, place(i) + LAST)
-}
+    // Reads the mode of the record at place i of n records whose modes are known: such a mode stands in the last byte of its field.
+    pub fn known_mode(&self, n: usize, i: usize) -> u64
+        requires { Moded n self.now.bytes.now × (i < n) }
+        ensures { (result ≡ (lock_at self.now.bytes.now i).mode) × (1 ≤ result) × (result ≤ 4) }
+    {
+        self.bytes[place(i) + MODE + 3] as u64
+    }
 
-// Reads the mode of the record at place i of a table whose modes are known: such a mode stands in the last byte of its field.
-pub fn known_mode_at(t: &[u8], n: usize, i: usize) -> u64
-    requires { Moded n t.now × (i < n) }
-    ensures { (result ≡ (lock_at t.now i).mode) × (1 ≤ result) × (result ≤ 4) }
-{
-    t[place(i) + MODE + 3] as u64
-}
+    // Reads the state of the record at place i.
+    pub fn state(&self, i: usize) -> u64
+        requires { i < max_records }
+        ensures { result ≡ (lock_at self.now.bytes.now i).state }
+    {
+        xdr::number_at::<4>(self.bytes, place(i) + STATE)
+    }
 
-// Reads the number of records.
-pub fn count(t: &[u8]) -> usize
-    requires { length t.now ≡ table_size width }
-    ensures { result ≡ count_of t.now }
-{
-    xdr::u32_at(t, COUNT) as usize
-}
+    // Reads the number of the record at place i.
+    pub fn number(&self, i: usize) -> Number
+        requires { i < max_records }
+        ensures { (result.0 ≡ number_of (lock_at self.now.bytes.now i)) × (result.0 < 256 ^ width) }
+    {
+        Number(common::counter_at(self.bytes, place(i) + NUMBER))
+    }
 
-// Stores the record at place i.
-pub fn put_lock(t: &mut [u8], n: usize, i: usize, l: Lock)
-    requires { Shape n t.old × (i < n) × LockFits l }
-    ensures { Holds n (with_lock (table_of width t.old) i l) t.new }
-{
-    let at = place(i);
-    put_shown(t, at, l);
-    xdr::put_u32(t, at + MARK, l.mark);
-}
+    // Reads the first byte of the record at place i.
+    pub fn first(&self, i: usize) -> u64
+        requires { i < max_records }
+        ensures { result ≡ (lock_at self.now.bytes.now i).first }
+    {
+        xdr::number_at::<8>(self.bytes, place(i) + FIRST)
+    }
 
-// Reads how many handles are issued.
-pub fn issued(t: &[u8]) -> u64
-    requires { length t.now ≡ table_size width }
-    ensures { (result ≡ (table_of width t.now).issued) × (result < 256 ^ width) }
-{
-    common::counter_at(t, ISSUED)
-}
-
-// Stores how many handles are issued.
-pub fn put_issued(t: &mut [u8], n: usize, v: u64)
-    requires { Shape n t.old × (v < 256 ^ width) }
-    ensures { Holds n (with_issued (table_of width t.old) v) t.new }
-{
-    common::put_counter(t, ISSUED, v);
-}
-
-// Reads the last number of stripe s.
-pub fn last_of(t: &[u8], s: usize) -> Number
-    requires { (length t.now ≡ table_size width) × (s < stripe_count) }
-    ensures { (result.0 ≡ last_of (table_of width t.now) s) × (result.0 < 256 ^ width) }
-{
-    Number(common::counter_at(t, LASTS + COUNTER_BYTES * s))
-}
-
-// Stores the last number of stripe s.
-pub fn put_last(t: &mut [u8], n: usize, s: usize, v: Number)
-    requires { Shape n t.old × (s < stripe_count) × (v.0 < 256 ^ width) }
-    ensures { Holds n (with_last (table_of width t.old) s v.0) t.new }
-{
-    common::put_counter(t, LASTS + COUNTER_BYTES * s, v.0);
-}
-
-// Adds the record after the n.
-pub fn add(t: &mut [u8], n: usize, l: Lock)
-    requires { Shape n t.old × (n < max_records) × LockFits l }
-    ensures { Holds (n + 1) (with_locks (table_of width t.old) ((table_of width t.old).locks ++ (l ∷ []))) t.new }
-{
-    xdr::put_u32(t, COUNT, n as u64 + 1);
-    put_lock(t, n + 1, n, l);
-}
-
-// The record of a place that no record uses.
-fn nothing() -> Lock
-    ensures { result ≡ blank }
-{
-    Lock {
-        handle: Handle(0),
-        client: 0,
-        stripe: 0,
-        mode: 0,
-        state: 0,
-        number: Number(0),
-        first: 0,
-        last: 0,
-        mark: 0,
+    // Reads the last byte of the record at place i.
+    pub fn last(&self, i: usize) -> u64
+        requires { i < max_records }
+        ensures { result ≡ (lock_at self.now.bytes.now i).last }
+    {
+        xdr::number_at::<8>(self.bytes, place(i) + LAST)
     }
 }
 
-// Takes out the record at place i: the later ones go down by one, and the last place is cleared.
-pub fn remove(t: &mut [u8], n: usize, i: usize)
-    requires { Shape n t.old × (i < n) }
-    ensures { Holds (n - 1) (with_locks (table_of width t.old) (without i (table_of width t.old).locks)) t.new }
-{
-    let mut k = i;
-    while k + 1 < n {
-        let l = lock_at(t, k + 1);
-        put_lock(t, n, k, l);
-        k += 1;
+// A lent table of n records. What changes it keeps this shape. That it is sound (`Good`) is a clause where it is asked: a message changes a table
+// field by field, so it is sound only between changes.
+#[derive(Drop)]
+pub struct Table<'a> {
+    pub bytes: &'a mut [u8],
+    pub n: usize,
+    ghost shape: { Shape n bytes.now },
+}
+
+impl<'a> Table<'a> {
+    // Lends the records for reading.
+    pub fn records(&self) -> Records<'_>
+        ensures { result.bytes.now ≡ self.now.bytes.now }
+    {
+        Records {
+            bytes: &*self.bytes,
+        }
     }
-    put_lock(t, n, k, nothing());
-    xdr::put_u32(t, COUNT, k as u64);
+
+    // Stores the record at place i.
+    pub fn put_lock(&mut self, i: usize, l: Lock)
+        requires { (i < self.old.n) × LockFits l }
+        ensures { Holds self.new.n (with_lock (table_of width self.old.bytes.now) i l) self.new.bytes.now × (self.new.n ≡ self.old.n) × (self.new.bytes.ghost_name ≡ self.old.bytes.ghost_name) }
+    {
+        let at = place(i);
+        let t = &mut *self.bytes;
+        put_shown(t, at, l);
+        xdr::put_number::<4>(t, at + MARK, l.mark);
+    }
+
+    // Stores how many handles are issued.
+    pub fn put_issued(&mut self, v: u64)
+        requires { v < 256 ^ width }
+        ensures { Holds self.new.n (with_issued (table_of width self.old.bytes.now) v) self.new.bytes.now × (self.new.n ≡ self.old.n) × (self.new.bytes.ghost_name ≡ self.old.bytes.ghost_name) }
+    {
+        common::put_counter(self.bytes, ISSUED, v);
+    }
+
+    // Stores the last number of stripe s.
+    pub fn put_last(&mut self, s: usize, v: Number)
+        requires { (s < stripe_count) × (v.0 < 256 ^ width) }
+        ensures { Holds self.new.n (with_last (table_of width self.old.bytes.now) s v.0) self.new.bytes.now × (self.new.n ≡ self.old.n) × (self.new.bytes.ghost_name ≡ self.old.bytes.ghost_name) }
+    {
+        common::put_counter(self.bytes, LASTS + COUNTER_BYTES * s, v.0);
+    }
+
+    // Adds the record after the n.
+    pub fn add(&mut self, l: Lock)
+        requires { (self.old.n < max_records) × LockFits l }
+        ensures { Holds self.new.n (with_locks (table_of width self.old.bytes.now) ((table_of width self.old.bytes.now).locks ++ (l ∷ []))) self.new.bytes.now × (self.new.n ≡ self.old.n + 1) × (self.new.bytes.ghost_name ≡ self.old.bytes.ghost_name) }
+    {
+        let i = self.n;
+        xdr::put_number::<4>(self.bytes, COUNT, i as u64 + 1);
+        self.n = i + 1;
+        self.put_lock(i, l);
+    }
+
+    // Takes out the record at place i: the later ones go down by one, and the last place is cleared.
+    pub fn remove(&mut self, i: usize)
+        requires { i < self.old.n }
+        ensures { Holds self.new.n (with_locks (table_of width self.old.bytes.now) (without i (table_of width self.old.bytes.now).locks)) self.new.bytes.now × (self.new.n ≡ self.old.n - 1) × (self.new.bytes.ghost_name ≡ self.old.bytes.ghost_name) }
+    {
+        let last = self.n - 1;
+        let t = &mut *self.bytes;
+        t.copy_within(place(i + 1)..place(last + 1), place(i));
+        t[place(last)..place(last + 1)].fill(0);
+        xdr::put_number::<4>(t, COUNT, last as u64);
+        self.n = last;
+    }
 }

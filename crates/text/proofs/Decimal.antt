@@ -1,13 +1,15 @@
 -- Numbers in decimal: all digits but the last are those of the tenth part, and 20 digits are enough.
 use Prim.Native.Nat.{ℕ, zero, suc, ◌+◌, ◌*◌, ◌/◌, ◌%◌, ◌≤◌, ◌<◌}
 use Prim.Native.Char.{code}
-use mathlib.Core.Path.{◌≡◌, refl, ap, ◌∙◌}
+use mathlib.Core.Path.{◌≡◌, refl, sym, ap, ◌∙◌}
 use mathlib.Core.Bool.{Bool, true, false, cond}
 use mathlib.Core.List.{List, [], ◌∷◌, ◌++◌}
 use native.Mathlib.Omega.{arith}
 use lib.Dec.{ltb}
 use lib.ListN.{length, length-append}
 use borrow.Author.Tests.{lt-ltb, le-ltb}
+use Rattle.std.specs.Fmt as fmt
+use Rattle.std.proofs.lemmas.Fmt.{decimal_by_steps}
 use Rattle.line.specs.Format.{largest}
 use Rattle.text.specs.Text.{digits_of, decimal}
 
@@ -54,9 +56,6 @@ pub decimal-big : (n : ℕ) → n ≤ largest → 10 ≤ n → decimal n ≡ dec
 unfolding decimal
 decimal-big n m h = digits-big 18 n h ∙ ap (λ (l : List ℕ). l ++ ((code "0" + n % 10) ∷ [])) (enough 18 (n / 10) (tenth-below n m))
 
-pub length-big : (n : ℕ) → n ≤ largest → 10 ≤ n → length (decimal n) ≡ length (decimal (n / 10)) + 1
-length-big n m h = rw (decimal-big n m h) (simp length-append)
-
 digits-length : (k n : ℕ) → length (digits_of k n) ≤ suc k
 unfolding digits_of
 digits-length zero n = omega arith
@@ -70,3 +69,9 @@ digits-length (suc k) n = go (ltb n 10) (digits-length k (n / 10))
 pub at-most-20 : (n : ℕ) → length (decimal n) ≤ 20
 unfolding decimal
 at-most-20 = digits-length 19
+
+-- the digits that the library writes are the same
+pub library-decimal : (n : ℕ) → n ≤ largest → fmt.decimal n ≡ decimal n
+library-decimal n h =
+    sym (decimal_by_steps (λ m ds. m ≤ largest → decimal m ≡ ds) (λ m l k. decimal-small m l)
+    (λ m ds l u k. decimal-big m k l ∙ ap (λ (d : List ℕ). d ++ ((code "0" + m % 10) ∷ [])) (u (omega arith))) n (omega arith) h)

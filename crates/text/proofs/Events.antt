@@ -1,7 +1,7 @@
 -- Events in an event buffer: where the numbers of one stand, and that a call's events stand there.
 use Prim.Native.Nat.{ℕ, ◌+◌, ◌^◌, ◌<◌}
 use mathlib.Core.Path.{◌≡◌, sym, ap, ap₂, ◌∙◌}
-use mathlib.Core.List.{List, [], ◌∷◌, map}
+use mathlib.Core.List.{List, ◌∷◌, map}
 use native.Mathlib.Nat.{add-zero}
 use native.Mathlib.Omega.{arith}
 use lib.ListN.{length, length-map}
@@ -13,13 +13,11 @@ use Rattle.xdr.proofs.Fields.{fields-from}
 use Rattle.xdr.proofs.Tabs.{length-tab}
 use Rattle.xdr.proofs.Arrays.{array-put}
 use Rattle.table.specs.declared.Lock.{Lock}
-use Rattle.table.specs.Table.{handle_of, number_of}
 use Rattle.table.specs.Bytes.{shown_layout, shown_fields, shown_of}
 use Rattle.locks.specs.Settle.{Event}
 use Rattle.locks.specs.Events.{event_layout, event_fields, Room, events_over}
-use Rattle.text.specs.Text.{fields_text, line_break, line_text, kind_letter, event_text, line_size}
+use Rattle.text.specs.Text.{line_text, kind_letter, event_text, line_size}
 use Rattle.text.specs.Buffers.{Wrote, event_at, events_in}
-use Rattle.text.proofs.Writing.{wrote_then, fields-append}
 
 -- the line of an event: its kind's letter, the eight fields of what is shown of the record, and the break
 event-numbers : (b : List ℕ) (at kind : ℕ) (l : Lock) → kind ≡ be 4 b at → l ≡ shown_of (fields (shown_layout width) b (at + 4) 0)
@@ -29,16 +27,12 @@ event-numbers b at kind l e f =
     ap₂ (λ (x : ℕ) (ns : List ℕ). x ∷ ns) (ap (be 4 b) (add-zero at) ∙ sym e)
     (sym (fields-from (shown_layout width) b at 4 0) ∙ ap shown_fields (sym f))
 
-pub event-line : (b : List ℕ) (at kind : ℕ) (l : Lock) {o₀ o₁ o₂ o₃ o₄ : List ℕ} {p₀ p₁ p₂ p₃ p₄ : ℕ}
+pub event-line : (b : List ℕ) (at kind : ℕ) (l : Lock) {before after : List ℕ}
     → kind ≡ be 4 b at → l ≡ shown_of (fields (shown_layout width) b (at + 4) 0)
-    → Wrote 1 o₀ o₁ p₀ p₁ (kind_letter kind ∷ [])
-    → Wrote 84 o₁ o₂ p₁ p₂ (fields_text (handle_of l ∷ l.client ∷ l.stripe ∷ l.mode ∷ []))
-    → Wrote 84 o₂ o₃ p₂ p₃ (fields_text (l.state ∷ number_of l ∷ l.first ∷ l.last ∷ []))
-    → Wrote 2 o₃ o₄ p₃ p₄ line_break
-    → Wrote (line_size 8) o₀ o₄ p₀ p₄ (event_text (fields (event_layout width) b at 0))
-unfolding event_text line_text
-event-line b at kind l e f k x y z =
-    rw (event-numbers b at kind l e f) (simp fields-append at (wrote_then (wrote_then (wrote_then k x) y) z))
+    → Wrote (line_size 8) before after (line_text (kind_letter kind) (shown_fields l))
+    → Wrote (line_size 8) before after (event_text (fields (event_layout width) b at 0))
+unfolding event_text
+event-line b at kind l e f w = rw (event-numbers b at kind l e f) w
 
 -- the events that a call leaves in the buffer are read from it
 pub events-read : (b : List ℕ) (es : List Event) → Room (length es) b → length es < 2 ^ 32

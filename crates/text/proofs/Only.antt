@@ -11,7 +11,7 @@ use borrow.Author.Tests.{ltb-false, leb-true, eqb-true, eqb-false, lt-leb}
 use Rattle.common.proofs.Bools.{never}
 use Rattle.locks.specs.declared.Message.{Message}
 use Rattle.locks.specs.declared.Message.TheVariants.{Acknowledge, Downgrade, Release}
-use Rattle.line.specs.declared.Read.TheVariants.{Bad, Good}
+use Rattle.std.specs.Prelude.{Some, None}
 use Rattle.line.specs.Format.{Reading, right, wrong, largest, digit_of, read_digits, read_number, read_field}
 use Rattle.line.specs.Format.{read_on, numbers, read_fields, requesting, naming, by_letter, longest, read_line}
 use Rattle.text.specs.Text.{decimal, fields_text, letter_of, numbers_of, message_text}
@@ -114,17 +114,17 @@ pub record Written (s : List ℕ) (m : Message) : Type 0 where
   pub text : s ≡ message_text m
   pub fits : Fits (numbers_of m)
 
-bad : {A : Type 0} {m : Message} → Bad ≡ Good m → A
+bad : {A : Type 0} {m : Message} → None ≡ Some m → A
 bad e = absurd (let z : ◌≡◌ {A = ℕ} 0 1 = cc in let w : ⊥ = omega arith in w)
 
 module _ (l : ℕ) (s : List ℕ) (m : Message) where
   -- the message is made of the numbers that were read, and the line ends behind them
-  written : (n : ℕ) (f : List ℕ → Message) → read_fields n f s ≡ Good m → l ≡ letter_of (f (numbers n (right 0 s)))
+  written : (n : ℕ) (f : List ℕ → Message) → read_fields n f s ≡ Some m → l ≡ letter_of (f (numbers n (right 0 s)))
       → numbers_of (f (numbers n (right 0 s))) ≡ numbers n (right 0 s) → Written (l ∷ s) m
   unfolding read_fields
   written n f h el en = go (read_on n (right 0 s)).ok (read_on n (right 0 s)).rest h (fields-only n (right 0 s))
     where
-      go : (x : Bool) (t : List ℕ) → cond (x && leb (length t) 0) (Good (f (numbers n (right 0 s)))) Bad ≡ Good m
+      go : (x : Bool) (t : List ℕ) → cond (x && leb (length t) 0) (Some (f (numbers n (right 0 s)))) None ≡ Some m
           → (x ≡ true → Spells s (numbers n (right 0 s)) t) → Written (l ∷ s) m
       go true [] k u =
           let e : m ≡ f (numbers n (right 0 s)) = cc in
@@ -136,7 +136,7 @@ module _ (l : ℕ) (s : List ℕ) (m : Message) where
       go true (b ∷ t) k u = bad (rw (lt-leb (length (b ∷ t)) 0 (omega arith)) at k)
       go false t k u = bad k
 
-  letter-only : by_letter l s ≡ Good m → Written (l ∷ s) m
+  letter-only : by_letter l s ≡ Some m → Written (l ∷ s) m
   unfolding by_letter
   letter-only h = go (eqb l (code "R")) (eqb l (code "A")) (eqb l (code "D")) (eqb l (code "F")) refl refl refl refl h
     where
@@ -144,19 +144,19 @@ module _ (l : ℕ) (s : List ℕ) (m : Message) where
           → cond r (read_fields 5 requesting s)
           (cond a (read_fields 2 (naming Acknowledge) s)
           (cond d (read_fields 2 (naming Downgrade) s)
-          (cond f (read_fields 2 (naming Release) s) Bad)))
-          ≡ Good m → Written (l ∷ s) m
+          (cond f (read_fields 2 (naming Release) s) None)))
+          ≡ Some m → Written (l ∷ s) m
       go true a d f er ea ed ef k = written 5 requesting k (eqb-true l (code "R") er) refl
       go false true d f er ea ed ef k = written 2 (naming Acknowledge) k (eqb-true l (code "A") ea) refl
       go false false true f er ea ed ef k = written 2 (naming Downgrade) k (eqb-true l (code "D") ed) refl
       go false false false true er ea ed ef k = written 2 (naming Release) k (eqb-true l (code "F") ef) refl
       go false false false false er ea ed ef k = bad k
 
-pub read_only : (s : List ℕ) (m : Message) → read_line s ≡ Good m → Written s m
+pub read_only : (s : List ℕ) (m : Message) → read_line s ≡ Some m → Written s m
 unfolding read_line
 read_only [] m h = bad h
 read_only (l ∷ s) m h = go (ltb longest (length (l ∷ s))) h
   where
-    go : (b : Bool) → cond b Bad (by_letter l s) ≡ Good m → Written (l ∷ s) m
+    go : (b : Bool) → cond b None (by_letter l s) ≡ Some m → Written (l ∷ s) m
     go true k = bad k
     go false k = letter-only l s m k

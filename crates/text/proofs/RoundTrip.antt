@@ -11,7 +11,7 @@ use borrow.Author.Tests.{lt-ltb, le-ltb, le-leb, ltb-true, ltb-false, ne_eqb}
 use Rattle.locks.specs.declared.Message.{Message}
 use Rattle.locks.specs.declared.Message.TheVariants.{Request, Acknowledge, Downgrade, Release}
 use Rattle.locks.specs.Session.{single}
-use Rattle.line.specs.declared.Read.TheVariants.{Good}
+use Rattle.std.specs.Prelude.{Some}
 use Rattle.line.specs.Format.{Reading, right, largest, digit_of, read_digits, read_number, read_field}
 use Rattle.line.specs.Format.{read_on, numbers, read_fields, requesting, naming, by_letter, read_line}
 use Rattle.text.specs.Text.{digits_of, decimal, fields_text, numbers_of, message_text, line_break, line_text}
@@ -104,16 +104,16 @@ fields-length [] = omega arith
 fields-length (n ∷ ns) = simp length-append (omega (arith, at-most-20 n, fields-length ns))
 
 -- the line of a message says it
-fields-say : (f : List ℕ → Message) (ns : List ℕ) → Fits ns → read_fields (length ns) f (fields_text ns) ≡ Good (f ns)
+fields-say : (f : List ℕ → Message) (ns : List ℕ) → Fits ns → read_fields (length ns) f (fields_text ns) ≡ Some (f ns)
 unfolding read_fields
 fields-say f ns h =
     let b : Backs (length ns) (right 0 (fields_text ns)) ns [] = rw append-nil at (fields_back 0 ns [] h tt) in
     rw (b.fine, b.rest, b.same)
 
 text-short : (l : ℕ) (ns : List ℕ) → length ns ≤ 5 → read_line (l ∷ fields_text ns) ≡ by_letter l (fields_text ns)
-text-short l ns h = by-letter (l ∷ fields_text ns) (omega (arith, fields-length ns)) (λ e. omega arith)
+text-short l ns h = by-letter l (fields_text ns) refl (omega (arith, fields-length ns))
 
-pub read-text : (m : Message) → T (single m) → Fits (numbers_of m) → read_line (message_text m) ≡ Good m
+pub read-text : (m : Message) → T (single m) → Fits (numbers_of m) → read_line (message_text m) ≡ Some m
 unfolding by_letter
 read-text (Request c s m f l true) u h = absurd u
 read-text (Request c s m f l false) u h = text-short 82 (c ∷ s ∷ m ∷ f ∷ l ∷ []) (omega arith) ∙ fields-say requesting (c ∷ s ∷ m ∷ f ∷ l ∷ []) h

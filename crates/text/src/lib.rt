@@ -1,82 +1,50 @@
 // Prints answers: the lines of a refusal and a handle, and of the events of a call.
 #![tactic(auto)]
 
-ghost use Rattle.std.specs.Prelude.{◌≡◌, [], ◌∷◌, ◌+◌, ◌≤◌, ◌<◌, length};
+ghost use Rattle.std.specs.Prelude.{◌≡◌, ◌+◌, ◌≤◌, ◌++◌, length};
 ghost use Rattle.locks.specs.Events.{Room};
-ghost use Rattle.text.specs.Text.{decimal, fields_text, line_break, bad_text, answer_text, kind_letter, event_text, outcome_text};
-ghost use Rattle.text.specs.Text.{line_size, outcome_size};
+ghost use Rattle.text.specs.Text.{decimal, line_text, bad_text, kind_letter, event_text, outcome_text};
+ghost use Rattle.text.specs.Text.{line_size, outcome_size, text_room};
 ghost use Rattle.text.specs.Buffers.{Wrote, event_at, events_in};
 
+use arrayvec::ArrayVec;
 use locks::{EVENT_BYTES, EVENTS, KIND_BYTES};
+use table::MAX_RECORDS;
 
-// Puts a byte at `at`, and answers the place after it, as each function that puts something does.
-fn put_byte(out: &mut [u8], at: usize, b: u8) -> usize
-    requires { at < length out.old }
-    ensures { Wrote 1 out.old out.new at result (b ∷ []) }
-{
-    out[at] = b;
-    at + 1
-}
+// How many bytes the lines of an answer have at most: 45, and 171 for each event.
+pub const OUT_BYTES: usize = 45 + 171 * MAX_RECORDS;
+
+// What is to be written.
+pub type Out = ArrayVec<u8, OUT_BYTES>;
 
 // Puts a number in decimal.
-fn put_number(out: &mut [u8], at: usize, n: u64) -> usize
-    requires { at + length (decimal n) ≤ length out.old }
-    ensures { Wrote 20 out.old out.new at result (decimal n) }
+fn put_number(out: &mut Out, n: u64)
+    requires { length out.old.items + length (decimal n) ≤ text_room }
+    ensures { out.new.items ≡ out.old.items ++ decimal n }
 {
-    if n < 10 {
-        return put_byte(out, at, b'0' + n as u8);
+    let mut digits = itoa::Buffer::new();
+    let _ = out.try_extend_from_slice(digits.format(n).as_bytes());
+}
+
+// Puts a line: its letter, each of its numbers behind a comma, and CR LF.
+fn put_line(out: &mut Out, letter: u8, numbers: &[u64])
+    requires { length out.old.items + line_size (length numbers.now) ≤ text_room }
+    ensures { Wrote (line_size (length numbers.now)) out.old.items out.new.items (line_text letter numbers.now) }
+{
+    out.push(letter);
+    for n in numbers {
+        out.push(b',');
+        put_number(out, *n);
     }
-    let m = put_number(out, at, n / 10);
-    put_byte(out, m, b'0' + (n % 10) as u8)
-}
-
-// Puts a comma and a number.
-fn put_field(out: &mut [u8], at: usize, n: u64) -> usize
-    requires { at + 21 ≤ length out.old }
-    ensures { Wrote 21 out.old out.new at result (fields_text (n ∷ [])) }
-{
-    let m = put_byte(out, at, b',');
-    put_number(out, m, n)
-}
-
-// Puts CR LF.
-fn put_break(out: &mut [u8], at: usize) -> usize
-    requires { at + 2 ≤ length out.old }
-    ensures { Wrote 2 out.old out.new at result line_break }
-{
-    let m = put_byte(out, at, b'\r');
-    put_byte(out, m, b'\n')
+    let _ = out.try_extend_from_slice(b"\r\n");
 }
 
 // Puts the answer to a bad line.
-pub fn put_bad(out: &mut [u8]) -> usize
-    requires { line_size 0 ≤ length out.old }
-    ensures { Wrote (line_size 0) out.old out.new 0 result bad_text }
+pub fn put_bad(out: &mut Out)
+    requires { length out.old.items + line_size 0 ≤ text_room }
+    ensures { Wrote (line_size 0) out.old.items out.new.items bad_text }
 {
-    let m = put_byte(out, 0, b'?');
-    put_break(out, m)
-}
-
-// Puts the line of an answer.
-fn put_answer(out: &mut [u8], refusal: u64, handle: u64) -> usize
-    requires { line_size 2 ≤ length out.old }
-    ensures { Wrote (line_size 2) out.old out.new 0 result (answer_text refusal handle) }
-{
-    let a = put_byte(out, 0, b'=');
-    let b = put_field(out, a, refusal);
-    let c = put_field(out, b, handle);
-    put_break(out, c)
-}
-
-// Puts four fields.
-fn put_four(out: &mut [u8], at: usize, a: u64, b: u64, c: u64, d: u64) -> usize
-    requires { at + 84 ≤ length out.old }
-    ensures { Wrote 84 out.old out.new at result (fields_text (a ∷ b ∷ c ∷ d ∷ [])) }
-{
-    let p = put_field(out, at, a);
-    let q = put_field(out, p, b);
-    let r = put_field(out, q, c);
-    put_field(out, r, d)
+    put_line(out, b'?', &[]);
 }
 
 // Finds the letter of an event's line by its kind; there is no other than 1 and 2.
@@ -91,29 +59,26 @@ fn letter_of(kind: u64) -> u8
 }
 
 // Puts the line of event k of an event buffer, counted from 0.
-pub fn put_event(out: &mut [u8], at: usize, events: &[u8], k: usize) -> usize
-    requires { (at + line_size 8 ≤ length out.old) × Room (k + 1) events.now }
-    ensures { Wrote (line_size 8) out.old out.new at result (event_text (event_at events.now k)) }
+pub fn put_event(out: &mut Out, events: &[u8], k: usize)
+    requires { (length out.old.items + line_size 8 ≤ text_room) × Room (k + 1) events.now }
+    ensures { Wrote (line_size 8) out.old.items out.new.items (event_text (event_at events.now k)) }
 {
     let from = EVENTS + EVENT_BYTES * k;
-    let kind = xdr::u32_at(events, from);
+    let kind = xdr::number_at::<4>(events, from);
     let l = table::shown_at(events, from + KIND_BYTES);
-    let a = put_byte(out, at, letter_of(kind));
-    let b = put_four(out, a, l.handle.0, l.client, l.stripe, l.mode);
-    let c = put_four(out, b, l.state, l.number.0, l.first, l.last);
-    put_break(out, c)
+    let numbers = [
+        l.handle.0, l.client, l.stripe, l.mode, l.state, l.number.0, l.first, l.last,
+    ];
+    put_line(out, letter_of(kind), &numbers);
 }
 
-// Puts the line of an answer and the lines of its n events, which stand in the event buffer.
-pub fn put_outcome(out: &mut [u8], refusal: u64, handle: u64, events: &[u8], n: usize) -> usize
-    requires { (outcome_size n ≤ length out.old) × Room n events.now }
-    ensures { Wrote (outcome_size n) out.old out.new 0 result (outcome_text refusal handle (events_in events.now n)) }
+// Puts the line of an answer and the lines of its n events, which stand in the event buffer: the buffer and the count are what an entry gives C.
+pub fn put_outcome(out: &mut Out, refusal: u64, handle: u64, events: &[u8], n: usize)
+    requires { (length out.old.items + outcome_size n ≤ text_room) × Room n events.now }
+    ensures { Wrote (outcome_size n) out.old.items out.new.items (outcome_text refusal handle (events_in events.now n)) }
 {
-    let mut at = put_answer(out, refusal, handle);
-    let mut k = 0;
-    while k < n {
-        at = put_event(out, at, events, k);
-        k += 1;
+    put_line(out, b'=', &[refusal, handle]);
+    for k in 0..n {
+        put_event(out, events, k);
     }
-    at
 }

@@ -1,3 +1,4 @@
+pub mod Powers
 pub mod Numbers
 pub mod Fields
 pub mod Tabs

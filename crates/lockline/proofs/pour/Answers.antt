@@ -1,17 +1,17 @@
--- `pour`: a piece is fed on from the place reached.
-use Rattle.std.proofs.Common.{arith}
-use Rattle.lockline.proofs.Pouring.{takes_none, fed-within, fed-more}
+-- `pour`: what is left of a piece is fed on.
+use Rattle.std.proofs.Common.{sym}
+use borrow.Author.Tests.{eqb-true, eqb-false}
+use Rattle.lockline.proofs.Pouring.{poured_none, poured_more, poured_less, poured_all}
 use Rattle.lockline.proofs.pour.Goals as goal
 
-pub loop-at-init : goal.loop-at-init
-loop-at-init c = record { within = omega arith; ready = c.requires; takes = λ p k. takes_none c.args.table.now p k }
+pub loop-rest-init : goal.loop-rest-init
+loop-rest-init c = poured_none _ _ _
 
-pub loop-at-preserved : goal.loop-at-preserved
-loop-at-preserved c =
-    let s = c.args.piece.now in
-    let F = c.feed-f.ensures in
-    record {
-      within = fed-within s c.loop-at.at c.loop-at-test.true F;
-      ready = F.ready;
-      takes = λ p k. fed-more s c.loop-at.at c.loop-at-test.true F _ p (c.loop-at.invariant.takes p k);
-    }
+pub loop-rest-smaller : goal.loop-rest-smaller
+loop-rest-smaller c = poured_less c.loop-rest.invariant c.feed-n.ensures (eqb-false _ 0 (sym c.loop-rest-test.ensures))
+
+pub loop-rest-preserved : goal.loop-rest-preserved
+loop-rest-preserved c = poured_more c.loop-rest.invariant c.feed-n.ensures
+
+pub returns : goal.returns
+returns c = poured_all (eqb-true _ 0 (sym c.loop-rest-test.ensures)) c.loop-rest.invariant

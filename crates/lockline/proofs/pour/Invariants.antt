@@ -1,17 +1,10 @@
--- `pour`: what is fed so far is the piece up to the place reached.
-use Rattle.std.proofs.Common.{ℕ, List, length, take, ◌-◌, ◌≤◌}
-use Rattle.common.specs.Counters.{width}
-use Rattle.table.specs.Bytes.{table_of}
-use Rattle.lines.specs.Buffers.{Keeps}
-use Rattle.session.specs.Buffers.{Ready, Takes}
+-- `pour`: all of the piece but what is left of it is taken.
+use Rattle.std.proofs.Common.{length}
+use Rattle.lockline.proofs.Pouring.{Poured}
 use Rattle.lockline.proofs.pour.Given as goal
 
-abbrev pub invariant-loop-at : goal.invariant-loop-at
-invariant-loop-at l = record {
-  within : l.at ≤ length l.piece;
-  ready : Ready l.line l.n l.table l.events l.out;
-  takes : (p : List ℕ) → Keeps (take l.kept l.fn.line) p → Takes (table_of width l.fn.table) p (take l.at l.piece) l.line l.n l.table;
-}
+abbrev pub invariant-loop-rest : goal.invariant-loop-rest
+invariant-loop-rest l = Poured l.piece l.fn.session.line.items l.fn.session.table l.rest l.session.line.items l.session.table
 
-abbrev pub decreases-loop-at : goal.decreases-loop-at
-decreases-loop-at l = length l.piece - l.at
+abbrev pub decreases-loop-rest : goal.decreases-loop-rest
+decreases-loop-rest l = length l.rest

@@ -1,48 +1,62 @@
 -- `note`: each answer is the first rule that is broken; the map is drawn in scratch, and log and map change only where it fits.
-use Prim.Native.Nat.{ℕ}
 use native.Mathlib.Omega.{arith}
-use mathlib.Core.Path.{refl}
-use lib.ListN.{length-replicate}
-use borrow.Author.Rules.{rules}
-use Rattle.common.specs.Counters.{width}
-use Rattle.runs.specs.Bytes.{map_size}
-use Rattle.note.proofs.Noting.{note-early, unrefused, note-16, note-17, note-0}
+use mathlib.Core.Path.{◌≡◌, refl, sym, subst}
+use Rattle.std.proofs.lemmas.Grind.{common_steps}
+use Rattle.common.specs.Refusals.{answer_of}
+use Rattle.runs.specs.Valid.{Valid}
+use Rattle.note.proofs.Noting.{note-12, note-13, note-own, unrefused, entry, note-16, note-17, note-0}
 use Rattle.note.proofs.Replacing.{drawn-tail}
 use Rattle.note.proofs.note.Goals as goal
 
-pub returns-then-refusal-ne0 : goal.returns-then-refusal-ne0
-returns-then-refusal-ne0 c = note-early _ _ _ _ _ c.if-refusal-ne0.true c.early-refusal.ensures
+pub returns-in_err-runs : goal.returns-in_err-runs
+returns-in_err-runs c =
+    let a : answer_of c.from_residual.result ≡ 12 = grind (arith, common_steps) in
+    rw a (note-12 _ _ _ _ (grind (arith, common_steps)))
 
-pub overflow_sub-piece : goal.overflow_sub-piece
-overflow_sub-piece c = omega (arith, (unrefused _ _ _ _ _ c.early-refusal.ensures c.if-refusal-ne0.false).some)
+pub returns-in_err-entries : goal.returns-in_err-entries
+returns-in_err-entries c =
+    let a : answer_of c.from_residual-in_err-entries.result ≡ 13 = grind (arith, common_steps) in
+    rw a (note-13 _ _ _ _ (grind (arith, common_steps)) (grind (arith, common_steps)))
 
-pub overflow_add-piece : goal.overflow_add-piece
-overflow_add-piece c = let p = unrefused _ _ _ _ _ c.early-refusal.ensures c.if-refusal-ne0.false in omega (arith, p.some, p.inside)
+pub returns-in_err-place : goal.returns-in_err-place
+returns-in_err-place c =
+    let e : answer_of c.from_residual-in_err-place.result ≡ answer_of c.of-3.result = grind (arith, common_steps) in
+    let n : answer_of c.of-3.result ≡ 0 → ⊥ = grind (arith, common_steps) in
+    rw e (note-own _ _ _ _ (grind (arith, common_steps)) (grind (arith, common_steps)) _ c.of-3.ensures.refusal n)
 
 pub raised-raised-requires : goal.raised-raised-requires
 raised-raised-requires c =
-    let p = unrefused _ _ _ _ _ c.early-refusal.ensures c.if-refusal-ne0.false in
-    (length-replicate {A = ℕ} (map_size width) 0, p.mapped, p.valid)
+    let p = unrefused c.args.map.now c.args.log.now c.args.e c.args.image (grind (arith, common_steps)) (grind (arith, common_steps)) c.in_ok-place.ensures.refusal in
+    let q = entry _ _ _ _ p _ _ _ c.in_ok-place.ensures.ok in
+    subst Valid (sym q) p.valid
 
 pub returns-then-raised-gt-MAX_RUNS : goal.returns-then-raised-gt-MAX_RUNS
 returns-then-raised-gt-MAX_RUNS c =
-    note-16 _ _ _ _ (unrefused _ _ _ _ _ c.early-refusal.ensures c.if-refusal-ne0.false) _ _ _ c.raised-raised.ensures c.if-raised-gt-MAX_RUNS.true
-
-pub count-requires : goal.count-requires
-count-requires c = omega (arith, (unrefused _ _ _ _ _ c.early-refusal.ensures c.if-refusal-ne0.false).log.long)
+    let p = unrefused c.args.map.now c.args.log.now c.args.e c.args.image (grind (arith, common_steps)) (grind (arith, common_steps)) c.in_ok-place.ensures.refusal in
+    let q = entry _ _ _ _ p _ _ _ c.in_ok-place.ensures.ok in
+    let b : c.in_ok-runs.runs.bytes.now ≡ c.args.map.now = grind (arith, common_steps) in
+    note-16 _ _ _ _ p _ q _ _ _ (rw b at c.raised-raised.ensures) c.if-raised-gt-MAX_RUNS.true
 
 pub returns-then-count-ge-MAX_ENTRIES : goal.returns-then-count-ge-MAX_ENTRIES
 returns-then-count-ge-MAX_ENTRIES c =
-    note-17 _ _ _ _ (unrefused _ _ _ _ _ c.early-refusal.ensures c.if-refusal-ne0.false) _ _ _ c.raised-raised.ensures c.if-raised-gt-MAX_RUNS.false (omega arith)
+    let p = unrefused c.args.map.now c.args.log.now c.args.e c.args.image (grind (arith, common_steps)) (grind (arith, common_steps)) c.in_ok-place.ensures.refusal in
+    let q = entry _ _ _ _ p _ _ _ c.in_ok-place.ensures.ok in
+    let b : c.in_ok-runs.runs.bytes.now ≡ c.args.map.now = grind (arith, common_steps) in
+    note-17 _ _ _ _ p _ q _ _ _ (rw b at c.raised-raised.ensures) c.if-raised-gt-MAX_RUNS.false (grind (arith, common_steps))
 
 pub append-requires : goal.append-requires
-append-requires c = ((unrefused _ _ _ _ _ c.early-refusal.ensures c.if-refusal-ne0.false).log.long, omega arith)
+append-requires c =
+    let p = unrefused c.args.map.now c.args.log.now c.args.e c.args.image (grind (arith, common_steps)) (grind (arith, common_steps)) c.in_ok-place.ensures.refusal in
+    (p.log.long, grind (arith, common_steps))
 
 pub replace-requires : goal.replace-requires
 replace-requires c =
-    let p = unrefused _ _ _ _ _ c.early-refusal.ensures c.if-refusal-ne0.false in
-    (p.mapped, search rules, c.if-raised-gt-MAX_RUNS.false, drawn-tail _ _ _ c.raised-raised.ensures c.if-raised-gt-MAX_RUNS.false)
+    let p = unrefused c.args.map.now c.args.log.now c.args.e c.args.image (grind (arith, common_steps)) (grind (arith, common_steps)) c.in_ok-place.ensures.refusal in
+    (p.mapped, c.if-raised-gt-MAX_RUNS.false, drawn-tail _ _ _ c.raised-raised.ensures c.if-raised-gt-MAX_RUNS.false)
 
 pub returns : goal.returns
 returns c =
-    note-0 _ _ _ _ (unrefused _ _ _ _ _ c.early-refusal.ensures c.if-refusal-ne0.false) _ _ _ c.raised-raised.ensures c.if-raised-gt-MAX_RUNS.false _ _ (omega arith) refl c.replace.ensures c.append.ensures
+    let p = unrefused c.args.map.now c.args.log.now c.args.e c.args.image (grind (arith, common_steps)) (grind (arith, common_steps)) c.in_ok-place.ensures.refusal in
+    let q = entry _ _ _ _ p _ _ _ c.in_ok-place.ensures.ok in
+    let b : c.in_ok-runs.runs.bytes.now ≡ c.args.map.now = grind (arith, common_steps) in
+    note-0 _ _ _ _ p _ q _ _ _ (rw b at c.raised-raised.ensures) c.if-raised-gt-MAX_RUNS.false _ _ (grind (arith, common_steps)) refl c.replace.ensures c.append.ensures

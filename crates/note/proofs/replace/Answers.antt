@@ -21,21 +21,21 @@ inside m k e good h f = omega (arith, (map-facts m good).few)
 
 pub returns : goal.returns
 returns c =
-    let e = ends c.args.map.now c.args.k _ _ _ c.count.ensures.0 c.greater-most.ensures c.place-end.ensures in
-    let h = inside c.args.map.now c.args.k _ c.requires.0 c.requires.2 e in
+    let e = ends c.args.map.now c.args.k _ _ _ c.count.ensures.0 c.max-most.ensures c.place-end.ensures in
+    let h = inside c.args.map.now c.args.k _ c.requires.0 c.requires.1 e in
     let z : c.place-end.result - 0 ≡ c.place-end.result = omega arith in
     c.put_count.ensures
-    ∙ ap (λ (l : List ℕ). put_be 4 l 0 c.args.k) (rw (c.copy_from_slice.ensures.after, z) (replaced c.args.map.now c.args.scratch.now c.args.k c.place-end.result c.requires.0 c.requires.1 c.requires.3 e h))
+    ∙ ap (λ (l : List ℕ). put_be 4 l 0 c.args.k) (rw (c.copy_from_slice.ensures.after, z) (replaced c.args.map.now c.args.scratch.now c.args.k c.place-end.result c.requires.0 (omega arith) c.requires.2 e h))
 
 pub count-requires : goal.count-requires
 count-requires c = omega (arith, (map-facts c.args.map.now c.requires.0).long)
 
 pub slice_bounds-copy_from_slice-end : goal.slice_bounds-copy_from_slice-end
 slice_bounds-copy_from_slice-end c =
-    let e = ends c.args.map.now c.args.k _ _ _ c.count.ensures.0 c.greater-most.ensures c.place-end.ensures in
-    omega (arith, inside c.args.map.now c.args.k _ c.requires.0 c.requires.2 e, (map-facts c.args.map.now c.requires.0).long)
+    let e = ends c.args.map.now c.args.k _ _ _ c.count.ensures.0 c.max-most.ensures c.place-end.ensures in
+    omega (arith, inside c.args.map.now c.args.k _ c.requires.0 c.requires.1 e, (map-facts c.args.map.now c.requires.0).long)
 
 pub slice_bounds-copy_from_slice-end-2 : goal.slice_bounds-copy_from_slice-end-2
 slice_bounds-copy_from_slice-end-2 c =
-    let e = ends c.args.map.now c.args.k _ _ _ c.count.ensures.0 c.greater-most.ensures c.place-end.ensures in
-    omega (arith, inside c.args.map.now c.args.k _ c.requires.0 c.requires.2 e, c.requires.1)
+    let e = ends c.args.map.now c.args.k _ _ _ c.count.ensures.0 c.max-most.ensures c.place-end.ensures in
+    omega (arith, inside c.args.map.now c.args.k _ c.requires.0 c.requires.1 e)

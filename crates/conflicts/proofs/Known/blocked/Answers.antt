@@ -1,0 +1,6 @@
+use Rattle.std.proofs.Common.{rules, tests, refl}
+use Rattle.conflicts.proofs.Asking.{asked_from}
+use Rattle.conflicts.proofs.Known.blocked.Goals as goal
+
+pub returns : goal.returns
+returns c = asked_from _ _ c.args.self.now.moded.shape _ _ _ _ _ c.any.ensures.ran refl (record { most = search rules; none = refl }) (λ j b q e. search (rules, tests))

@@ -1,3 +1,0 @@
-pub mod Copying
-pub mod Merging
-pub mod Halves
