@@ -25,6 +25,7 @@ pub struct Known<'a> {
     ghost moded: { Moded n records.bytes.now },
 }
 
+// Each question is of a place below n, or of two: these are the call's to know.
 impl<'a> Known<'a> {
     // Reads the mode of the record at place i. The crate `table` alone knows in which byte it stands.
     fn mode(&self, i: usize) -> Mode

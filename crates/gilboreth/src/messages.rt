@@ -1,4 +1,4 @@
-// The four messages: request, acknowledge, downgrade, release.
+// The four messages: request, acknowledge, downgrade, release. Three are alike: C calls each by its name.
 ghost use Rattle.std.specs.Prelude.{false};
 ghost use Rattle.locks.specs.declared.Message.TheVariants.{Request, Acknowledge, Downgrade, Release};
 ghost use Rattle.message.specs.Messages.{Serves};

@@ -40,7 +40,7 @@ pub enum Message {
     },
 }
 
-// A description of a list: what is asked, which stays, and its answer, which is stored in it.
+// A description of a list: what is asked, which stays, and its answer, which is stored in it. It is C's struct, so its answer is numbers.
 #[repr(C)]
 #[derive(Clone, Copy)]
 pub struct Item {

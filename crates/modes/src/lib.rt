@@ -98,7 +98,8 @@ const MATRIX: &[[Entry; 4]; 4] = &[
     [Always, Always, Always, Always],
 ];
 
-// Says whether an asked mode conflicts with a record's mode and state.
+// Says whether an asked mode conflicts with a record's mode and state. The state is a number: only whether it is canceling matters, and where
+// this is asked nothing else is known of it.
 #[tactic(auto, unfolding(crate::specs::Conflict::conflict))]
 pub fn conflict(asked: Mode, held: Mode, state: u64) -> bool
     ensures { result ≡ conflict (code_of asked) (code_of held) state }

@@ -16,7 +16,7 @@ use runbytes::{Log, Map};
 use runs::Run;
 use stripe::Extent;
 
-// Puts the k runs that are drawn in scratch in the place of a sound map's. Past the last run of either both have zeros, so the copy ends there.
+// Puts the k runs that are drawn in scratch, an array, in the place of a sound map's. Past the last run of either both have zeros, so the copy ends there.
 fn replace(map: &mut [u8], scratch: &[u8; runbytes::MAP_SIZE], k: usize)
     requires { (sound_map_bytes map.old ≡ true) × (k ≤ max_runs) × (zeros (drop (run_place width k) scratch.now) ≡ true) }
     ensures { map.new ≡ put_be 4 scratch.now 0 k }

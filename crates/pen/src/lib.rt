@@ -21,7 +21,7 @@ pub struct Pen {
     pub x: u64,
 }
 
-// A map that is being drawn: the bytes of a map, and the pen that draws in them. An array behind a field is lent as a slice through a
+// A map that is being drawn: the bytes of a map, in an array, since the project allocates nothing, and the pen that draws in them. An array behind a field is lent as a slice through a
 // variable, since the borrow checker takes no shorter way here.
 #[derive(Drop)]
 pub struct Drawing<'a> {
@@ -104,7 +104,7 @@ impl<'a> Drawing<'a> {
     }
 }
 
-// Fills the map with the k runs that are drawn in scratch.
+// Fills the map with the k runs that are drawn in scratch, an array: k is how much of it is drawn.
 pub fn fill(map: &mut [u8], scratch: &[u8; MAP_SIZE], k: usize)
     requires { length map.old ≡ map_size width }
     ensures { map.new ≡ put_be 4 scratch.now 0 k }

@@ -62,7 +62,8 @@ impl<'a> Sweep<'a> {
         }
     }
 
-    // Takes in every entry that begins at x or before: it stands in the list behind all of no greater age.
+    // Takes in every entry that begins at x or before: it stands in the list behind all of no greater age. How many are taken is kept, since
+    // `next_first` asks it too.
     fn take_in(&mut self, x: u64)
         requires { Sweeping self.old.log.bytes.now self.old x × (x ≤ eof) }
         ensures { Sweeping self.old.log.bytes.now self.new x × (x < next_of self.new) }
@@ -110,7 +111,7 @@ impl<'a> Sweep<'a> {
     }
 }
 
-// Draws the map of a log, and counts its runs.
+// Draws the map of a log, and counts its runs. The loop counts nothing: the pen says where the next stretch starts.
 pub fn rebuilt(out: &mut [u8; MAP_SIZE], log: Log<'_>) -> usize
     ensures { Stored (map_of (runs_of width log.entry.bytes.now)) out.old out.new result }
 {

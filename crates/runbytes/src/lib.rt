@@ -43,7 +43,7 @@ pub fn count(s: &[u8]) -> usize
     xdr::number_at::<4>(s, 0) as usize
 }
 
-// Stores the count of the runs or of the entries.
+// Stores the count of the runs or of the entries. Here n, and below k, is what is stored and where, and no length of the buffer.
 pub fn put_count(s: &mut [u8], n: usize)
     requires { 4 ≤ length s.old }
     ensures { s.new ≡ put_be 4 s.old 0 n }
@@ -164,7 +164,8 @@ pub fn log_sound(s: &[u8]) -> bool
     s.len() == LOG_SIZE && count(s) <= MAX_ENTRIES && all_valid(s)
 }
 
-// The bytes of a sound map, lent for reading.
+// The bytes of a sound map, lent for reading. `Map` and `Log` have a line each over the functions above, which both share; what each is known to be
+// differs.
 #[derive(Clone, Copy)]
 pub struct Map<'a> {
     pub bytes: &'a [u8],

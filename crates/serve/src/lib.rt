@@ -19,7 +19,8 @@ use modes::WAITING;
 use settle::Events;
 use table::{Lock, MARKED, Table, UNMARKED};
 
-// What C is answered by a call: its refusal or 0, the handle that it made or named, and how many events it wrote.
+// What C is answered by a call: its refusal or 0, the handle that it made or named, and how many events it wrote. It is C's struct, so the
+// refusal stands beside the rest; inside it is a `Result`.
 #[repr(C)]
 #[derive(Clone, Copy)]
 pub struct Answer {
@@ -28,7 +29,7 @@ pub struct Answer {
     pub events: u64,
 }
 
-// What an accepted call answers: the handle that it made or named, and how many events it wrote.
+// What an accepted call answers: the handle that it made or named, 0 for a list, and how many events it wrote.
 #[derive(Clone, Copy)]
 pub struct Accepted {
     pub handle: Handle,
@@ -54,6 +55,8 @@ impl From<Result<Accepted, Refusal>> for Answer {
         }
     }
 }
+
+// Table and events stay two parameters, as in settling.
 
 // Settles the changed table, writes the events behind those that stand there already, and answers the handle h. Their count is the caller's to
 // store.

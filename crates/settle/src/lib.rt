@@ -44,7 +44,8 @@ impl<'a> Events<'a> {
     }
 }
 
-// Table and events stay two parameters below: each is a struct with methods of its own, and one of both would only be taken apart again.
+// Table and events stay two parameters below: each is a struct with methods of its own, and one of both would only be taken apart again. That modes
+// are known (`Moded`) is a clause where a table changes, since a `Table` takes any record; lent for questions it is `Known`.
 
 // Lends a table whose modes are known for questions.
 fn known<'a>(t: &'a Table<'_>) -> Known<'a>

@@ -58,7 +58,7 @@ fn letter_of(kind: u64) -> u8
     }
 }
 
-// Puts the line of event k of an event buffer, counted from 0.
+// Puts the line of event k of an event buffer, counted from 0: k is a place in it.
 pub fn put_event(out: &mut Out, events: &[u8], k: usize)
     requires { (length out.old.items + line_size 8 ≤ text_room) × Room (k + 1) events.now }
     ensures { Wrote (line_size 8) out.old.items out.new.items (event_text (event_at events.now k)) }
