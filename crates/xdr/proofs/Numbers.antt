@@ -1,9 +1,9 @@
 -- The laws of `be` and `put_be`, over the width: the last byte is peeled off, and the others are a narrower number.
-use mathlib.Core.Path.{◌≡◌, refl, ap₂, ◌∙◌}
+use mathlib.Core.Path.{◌≡◌, refl, sym, ap, ap₂, ◌∙◌}
 use mathlib.Core.List.{List, [], ◌∷◌}
-use Prim.Native.Nat.{ℕ, zero, suc, ◌+◌, ◌*◌, ◌/◌, ◌%◌, ◌^◌, ◌≤◌, ◌<◌}
+use Prim.Native.Nat.{ℕ, zero, suc, ◌+◌, ◌*◌, ◌/◌, ◌%◌, ◌-◌, ◌^◌, ◌≤◌, ◌<◌}
 use mathlib.Core.Logic.{⊎_elim}
-use native.Mathlib.Nat.{suc_inj, not-suc-le-zero, le-suc_iff, le_refl, le_step, pow-suc}
+use native.Mathlib.Nat.{add-zero, add-suc, mul_assoc, add_assoc, suc_inj, not-suc-le-zero, le-suc_iff, le_refl, le_step, pow-suc}
 use native.Mathlib.Nat.{mod-lt, div-add-mod', div-lt_iff_lt-mul}
 use native.Mathlib.Omega.{arith}
 use lib.Dec.{lit<}
@@ -24,6 +24,17 @@ pub be-lt : (n : ℕ) (s : List ℕ) (at : ℕ) → Bytes s → be n s at < 256 
 unfolding be
 be-lt zero s at h = lit< tt
 be-lt (suc n) s at h = rw pow-suc (digits_lt (be-lt n s at h) (h (at + n)))
+
+-- a number is two narrower ones, the upper one first
+be-add : (m n : ℕ) (s : List ℕ) (at : ℕ) → be (m + n) s at ≡ be m s at * 256 ^ n + be n s (at + m)
+unfolding be
+be-add m zero s at = rw (add-zero m) (omega arith)
+be-add m (suc n) s at = rw (add-suc, be-add m n s at, pow-suc, ← mul_assoc, add_assoc at m n) (omega arith)
+
+pub be-words : (n : ℕ) (s : List ℕ) (at : ℕ) → 4 < n → be (n - 4) s at * 4294967296 + be 4 s (at + (n - 4)) ≡ be n s at
+be-words n s at h =
+    let e : n ≡ (n - 4) + 4 = omega arith in
+    sym (ap (λ (k : ℕ). be k s at) e ∙ be-add (n - 4) 4 s at)
 
 -- a store of a number keeps the length
 pub put-length : (n : ℕ) (s : List ℕ) (at v : ℕ) → length (put_be n s at v) ≡ length s

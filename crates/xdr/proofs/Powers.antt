@@ -1,5 +1,5 @@
 -- Powers of 256: as powers of 2, by which a shift divides, and those of 8 bytes at most.
-use mathlib.Core.Path.{◌≡◌, refl}
+use mathlib.Core.Path.{◌≡◌, refl, ap, ◌∙◌}
 use Prim.Native.Nat.{ℕ, zero, suc, ◌+◌, ◌*◌, ◌/◌, ◌%◌, ◌-◌, ◌^◌, ◌≤◌, ◌<◌}
 use mathlib.Core.List.{List}
 use native.Mathlib.Nat.{mul-suc, pow-suc, div-div-eq-div-mul}
@@ -25,3 +25,14 @@ put_more n j s at v h =
     let e : n - j ≡ suc (n - suc j) = omega arith in
     let f : n - 1 - j ≡ n - suc j = omega arith in
     rw (e, f, ← bytes-bits (n - suc j), pow-suc, ← div-div-eq-div-mul)
+
+-- a number of n bytes, 8 at most, fits 64 bits
+pub word-room : (n : ℕ) → n ≤ 8 → 256 ^ n ≤ 2 ^ 64
+word-room n h = rw (bytes-bits n) (pow_mono {i = 8 * n} {j = 64} (omega arith))
+
+-- a number of more than 4 bytes, as two
+pub two-words : (n a b : ℕ) → 4 < n → a < 256 ^ (n - 4) → b < 256 ^ 4 → a * 4294967296 + b < 256 ^ n
+two-words n a b h p q =
+    let e : n ≡ (n - 4) + 4 = omega arith in
+    let f : 256 ^ n ≡ 256 ^ (n - 4) * 256 ^ 4 = ap (λ (k : ℕ). 256 ^ k) e ∙ pow-add 256 (n - 4) 4 in
+    rw f (omega arith)

@@ -1,21 +1,23 @@
--- `number_at`: a byte more is one step of `be`.
-use Rattle.std.proofs.Common.{arith, rules}
-use native.Mathlib.Nat.{pow-suc}
-use native.Mathlib.Numerals.{add-one}
-use Rattle.xdr.specs.Be.{be}
-use Rattle.xdr.proofs.Powers.{bytes_room}
+-- `number_at`: a number of more than 4 bytes is two.
+use Rattle.std.proofs.Common.{arith}
+use Rattle.xdr.proofs.Numbers.{be-words}
+use Rattle.xdr.proofs.Powers.{word-room, two-words}
 use Rattle.xdr.proofs.number_at.Goals as goal
 
-pub loop-j-init : goal.loop-j-init
-unfolding be
-loop-j-init g c = search rules
+pub overflow_mul-result : goal.overflow_mul-result
+overflow_mul-result g c =
+    let r = word-room g.row.N c.requires.0 in
+    let w = two-words g.row.N c.word_at-2.result 0 (omega arith) c.word_at-2.ensures.1 (omega arith) in
+    omega arith
 
-pub overflow_mul-v : goal.overflow_mul-v
-overflow_mul-v g c = let r = bytes_room c.loop-j.j (omega arith) in let i = c.loop-j.invariant.1 in omega arith
+pub overflow_add-result : goal.overflow_add-result
+overflow_add-result g c =
+    let r = word-room g.row.N c.requires.0 in
+    let w = two-words g.row.N c.word_at-2.result c.word_at-3.result (omega arith) c.word_at-2.ensures.1 c.word_at-3.ensures.1 in
+    omega arith
 
-pub overflow_add-v : goal.overflow_add-v
-overflow_add-v g c = let r = bytes_room c.loop-j.j (omega arith) in let i = c.loop-j.invariant.1 in omega arith
-
-pub loop-j-preserved : goal.loop-j-preserved
-unfolding be
-loop-j-preserved g c = rw (add-one, pow-suc) (rw (← c.loop-j.invariant.0, c.from.ensures), omega arith)
+pub returns : goal.returns
+returns g c = (
+  rw (c.word_at-2.ensures.0, c.word_at-3.ensures.0) (be-words g.row.N c.args.s.now c.args.at (omega arith)),
+  two-words g.row.N c.word_at-2.result c.word_at-3.result (omega arith) c.word_at-2.ensures.1 c.word_at-3.ensures.1,
+)
