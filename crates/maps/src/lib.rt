@@ -89,7 +89,7 @@ fn start_at(map: &Map<'_>, i: usize) -> u64
     }
 }
 
-// Keeps the runs before place i of a map; the last of them is pending.
+// Keeps the runs before place i of a map; the last of them is pending. The place is the call's: a map has many.
 fn skip(d: &mut Drawing<'_>, map: &Map<'_>, i: usize)
     requires { (d.old.pen ≡ fresh) × (i ≤ be 4 map.now.bytes.now 0) }
     ensures kept { (d.new.pen ≡ pen_at map.now.bytes.now i) × (d.new.out.now ≡ with_runs d.old.out.now 0 (take (i - 1) (runs_of width map.now.bytes.now))) }

@@ -51,7 +51,7 @@ pub fn put_count(s: &mut [u8], n: usize)
     xdr::put_number::<4>(s, 0, n as u64);
 }
 
-// Finds where the run at place i starts.
+// Finds where the run at place i starts, by numbers of its own, as `table` does by its records'.
 pub fn place(i: usize) -> usize
     requires { run_place width i < 2 ^ 64 }
     ensures { result ≡ run_place width i }
@@ -59,28 +59,44 @@ pub fn place(i: usize) -> usize
     COUNT_BYTES + RUN_BYTES * i
 }
 
-// Reads the first byte of the run at place i. The three functions at a place ask for its room there: a view with the room of all counted
+// Reads the first byte of the run at place i. The functions at a place ask for its room there: a view with the room of all counted
 // runs would serve the two tests of all of them alone, since `Log::first` and `put_run` go past the count.
-fn first_at(s: &[u8], i: usize) -> u64
+pub fn first_at(s: &[u8], i: usize) -> u64
     requires { run_place width (i + 1) ≤ length s.now }
     ensures { result ≡ (run_at s.now i).first }
 {
     xdr::number_at::<8>(s, place(i))
 }
 
-// Reads the run at place i: 4 bytes hold no pass above the highest.
-fn run_at(s: &[u8], i: usize) -> Run
+// Reads the last byte of the run at place i.
+pub fn last_at(s: &[u8], i: usize) -> u64
+    requires { run_place width (i + 1) ≤ length s.now }
+    ensures { result ≡ (run_at s.now i).last }
+{
+    xdr::number_at::<8>(s, place(i) + LAST)
+}
+
+// Reads the age of the run at place i: 4 bytes hold no pass above the highest.
+pub fn age_at(s: &[u8], i: usize) -> Age
+    requires { run_place width (i + 1) ≤ length s.now }
+    ensures { (result ≡ (run_at s.now i).age) × (result.pass.0 ≤ highest_pass) }
+{
+    let at = place(i);
+    Age {
+        number: Number(common::counter_at(s, at + NUMBER)),
+        pass: Pass(xdr::number_at::<4>(s, at + PASS)),
+    }
+}
+
+// Reads the run at place i.
+pub fn run_at(s: &[u8], i: usize) -> Run
     requires { run_place width (i + 1) ≤ length s.now }
     ensures { (result ≡ run_at s.now i) × (result.age.pass.0 ≤ highest_pass) }
 {
-    let at = place(i);
     Run {
-        first: xdr::number_at::<8>(s, at),
-        last: xdr::number_at::<8>(s, at + LAST),
-        age: Age {
-            number: Number(common::counter_at(s, at + NUMBER)),
-            pass: Pass(xdr::number_at::<4>(s, at + PASS)),
-        },
+        first: first_at(s, i),
+        last: last_at(s, i),
+        age: age_at(s, i),
     }
 }
 

@@ -38,14 +38,14 @@ pub fn none() -> Age
     }
 }
 
-// Tests whether an age is that of a byte in no run.
+// Tests whether an age is that of a byte in no run: the name says what is asked.
 pub fn is_none(a: Age) -> bool
     ensures { result ≡ eqb (value_of a) 0 }
 {
     a == none()
 }
 
-// Tests whether two ages are one. The derived comparisons speak of fields; these three say the same of the ages' one ℕ, by which maps are drawn.
+// Tests whether two ages are one. The derived comparisons speak of fields; these three say the same of two ages' one ℕ, by which maps are drawn.
 pub fn same(a: Age, b: Age) -> bool
     requires { Exact a × Exact b }
     ensures { result ≡ eqb (value_of a) (value_of b) }

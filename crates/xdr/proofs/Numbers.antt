@@ -3,7 +3,7 @@ use mathlib.Core.Path.{◌≡◌, refl, sym, ap, ap₂, ◌∙◌}
 use mathlib.Core.List.{List, [], ◌∷◌}
 use Prim.Native.Nat.{ℕ, zero, suc, ◌+◌, ◌*◌, ◌/◌, ◌%◌, ◌-◌, ◌^◌, ◌≤◌, ◌<◌}
 use mathlib.Core.Logic.{⊎_elim}
-use native.Mathlib.Nat.{add-zero, add-suc, mul_assoc, add_assoc, suc_inj, not-suc-le-zero, le-suc_iff, le_refl, le_step, pow-suc}
+use native.Mathlib.Nat.{add-zero, add-suc, mul_assoc, add_assoc, suc_inj, not-suc-le-zero, le-suc_iff, le_refl, le_step, pow-suc, pow-succ', div-one, div-div-eq-div-mul}
 use native.Mathlib.Nat.{mod-lt, div-add-mod', div-lt_iff_lt-mul}
 use native.Mathlib.Omega.{arith}
 use lib.Dec.{lit<}
@@ -26,7 +26,7 @@ be-lt zero s at h = lit< tt
 be-lt (suc n) s at h = rw pow-suc (digits_lt (be-lt n s at h) (h (at + n)))
 
 -- a number is two narrower ones, the upper one first
-be-add : (m n : ℕ) (s : List ℕ) (at : ℕ) → be (m + n) s at ≡ be m s at * 256 ^ n + be n s (at + m)
+pub be-add : (m n : ℕ) (s : List ℕ) (at : ℕ) → be (m + n) s at ≡ be m s at * 256 ^ n + be n s (at + m)
 unfolding be
 be-add m zero s at = rw (add-zero m) (omega arith)
 be-add m (suc n) s at = rw (add-suc, be-add m n s at, pow-suc, ← mul_assoc, add_assoc at m n) (omega arith)
@@ -88,6 +88,12 @@ unfolding be put_be
 put-be zero s at h = refl
 put-be (suc n) s at h =
     rw (digits_div (be n s at) (h (at + n)), digits_mod (be n s at) (h (at + n)), put-be n s at h) (set-get_or s (at + n) 0)
+
+-- m + n bytes are stored in two parts
+pub put-add : (m n : ℕ) (s : List ℕ) (at v : ℕ) → put_be (m + n) s at v ≡ put_be n (put_be m s at (v / 256 ^ n)) (at + m) v
+unfolding put_be
+put-add m zero s at v = rw (add-zero, div-one)
+put-add m (suc n) s at v = rw (add-suc, put-add m n s at (v / 256), div-div-eq-div-mul, ← pow-succ', add_assoc at m n)
 
 -- bytes that say the same number agree
 pub be-inj : (n : ℕ) (s t : List ℕ) (a : ℕ) → Bytes s → Bytes t → be n s a ≡ be n t a
