@@ -1,5 +1,5 @@
 //! The numbers of the documents as the proved code has them, beside those of the C header, the model and
-//! the library. They are read from the `const` lines and the enums of crates/ and the `#define` lines of the header.
+//! the library. They are read from the `const` lines of crates/ and the `#define` lines of the header.
 
 use gilboreth_host::model::{self, list, locks, modes, runs, serve, stripe, table};
 use gilboreth_host::{
@@ -120,7 +120,7 @@ fn top() -> PathBuf {
     Path::new(env!("CARGO_MANIFEST_DIR")).join("..")
 }
 
-/// The constants of the crates, each a `const` line of its own, and the cases of their enums that have a number.
+/// The constants of the crates, each a `const` line of its own.
 fn proved() -> Constants {
     let mut constants = Constants::default();
     for place in read_dir(top().join("crates")).unwrap().map(|entry| entry.unwrap()) {
@@ -128,11 +128,7 @@ fn proved() -> Constants {
             for line in read_to_string(file.unwrap().path()).unwrap().lines() {
                 let line = line.strip_prefix("pub ").unwrap_or(line);
                 let constant = line.strip_prefix("const ").and_then(|line| line.strip_suffix(';'));
-                let case = line.strip_prefix("    ").and_then(|line| line.strip_suffix(','));
-                let case = case.filter(|line| line.starts_with(char::is_uppercase));
-                if let Some((typed, value)) =
-                    constant.or(case).and_then(|line| line.split_once(" = "))
-                {
+                if let Some((typed, value)) = constant.and_then(|line| line.split_once(" = ")) {
                     let name = typed.split(':').next().unwrap();
                     constants.define(place.file_name().to_str().unwrap(), name, value);
                 }
@@ -202,9 +198,9 @@ const CODES: [Row; 14] = [
         modes::State::Canceling as u64,
         Some(State::Canceling as u64),
     ),
-    (&["Grant"], "EVENT_GRANT", serve::Kind::Grant as u64, Some(Kind::Grant as u64)),
+    (&["GRANT"], "EVENT_GRANT", serve::Kind::Grant as u64, Some(Kind::Grant as u64)),
     (
-        &["Revocation"],
+        &["REVOCATION"],
         "EVENT_REVOCATION",
         serve::Kind::Revocation as u64,
         Some(Kind::Revocation as u64),

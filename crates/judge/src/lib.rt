@@ -13,7 +13,7 @@ ghost use Rattle.judge.specs.Posts.{FindsFirst, Finds, ready, becoming, asked_by
 use common::{EOF, HIGHEST, Handle, Refusal};
 use locks::Item;
 use modes::{ASKED, BW, CANCELING, NBW, PW};
-use table::{Lock, MAX_CLIENT, MAX_RECORDS, MAX_STRIPE, Table};
+use table::{Listed, Lock, MAX_CLIENT, MAX_RECORDS, MAX_STRIPE};
 
 // What a request asks for. A marked request's grant ends where it asked.
 #[derive(Clone, Copy)]
@@ -43,8 +43,8 @@ impl From<Item> for Asked {
 }
 
 // Judges a request by 3 to 8.
-pub fn request_refusal(t: &Table<'_>, a: Asked) -> Result<(), Refusal>
-    ensures { answer_of result ≡ first_hit (request_rules (table_of width t.now.bytes.now) a.client a.stripe a.mode a.first a.last) }
+pub fn request_refusal(t: &Listed<'_>, a: Asked) -> Result<(), Refusal>
+    ensures { answer_of result ≡ first_hit (request_rules (table_of width t.now.records.bytes.now) a.client a.stripe a.mode a.first a.last) }
 {
     if MAX_CLIENT < a.client {
         return Err(Refusal::Client);
@@ -58,7 +58,7 @@ pub fn request_refusal(t: &Table<'_>, a: Asked) -> Result<(), Refusal>
     if a.last < a.first || EOF < a.last {
         return Err(Refusal::Range);
     }
-    if HIGHEST <= t.records().issued() {
+    if HIGHEST <= t.records.issued() {
         return Err(Refusal::Handles);
     }
     if MAX_RECORDS <= t.n {
@@ -68,23 +68,22 @@ pub fn request_refusal(t: &Table<'_>, a: Asked) -> Result<(), Refusal>
 }
 
 // Finds the place of the record with the handle h.
-pub fn find(t: &Table<'_>, h: Handle) -> Option<usize>
-    ensures { FindsFirst t.now.n (locks_of width t.now.bytes.now) h.0 result }
+pub fn find(t: &Listed<'_>, h: Handle) -> Option<usize>
+    ensures { FindsFirst t.now.n (locks_of width t.now.records.bytes.now) h.0 result }
 {
-    let records = t.records();
-    (0..t.n).find(|&i| records.handle(i) == h)
+    (0..t.n).find(|&i| t.records.handle(i) == h)
 }
 
 // Finds the client's record with the handle, and refuses by 3, 9 and 10.
-pub fn named(t: &Table<'_>, client: u64, handle: Handle) -> Result<usize, Refusal>
-    requires { Good t.now.n t.now.bytes.now }
-    ensures { Finds t.now.n (table_of width t.now.bytes.now) client handle.0 result }
+pub fn named(t: &Listed<'_>, client: u64, handle: Handle) -> Result<usize, Refusal>
+    requires { Good t.now.n t.now.records.bytes.now }
+    ensures { Finds t.now.n (table_of width t.now.records.bytes.now) client handle.0 result }
 {
     if MAX_CLIENT < client {
         return Err(Refusal::Client);
     }
     let i = find(t, handle).ok_or(Refusal::NoRecord)?;
-    if t.records().lock(i).client != client {
+    if t.records.lock(i).client != client {
         return Err(Refusal::OtherClient);
     }
     Ok(i)
@@ -98,18 +97,34 @@ pub enum Becomes {
 }
 
 impl Becomes {
-    // Makes of l what it becomes, where 11 lets it. It is a match and no closure of the caller's: what a message asks is said by the message (`asks`).
+    // Says whether 11 lets l become that.
+    pub fn ready(self, l: Lock) -> bool
+        ensures { result ≡ ready self l }
+    {
+        match self {
+            Becomes::Canceling => l.state == ASKED,
+            Becomes::Nbw => l.state == CANCELING && (BW..=PW).contains(&l.mode),
+        }
+    }
+
+    // Makes of l what it becomes. It is a match and no closure of the caller's: what a message asks is said by the message (`asks`).
+    pub fn becoming(self, l: Lock) -> Lock
+        ensures { result ≡ becoming self l }
+    {
+        match self {
+            Becomes::Canceling => table::remade(l, l.mode, CANCELING, l.number, l.last),
+            Becomes::Nbw => table::remade(l, NBW, l.state, l.number, l.last),
+        }
+    }
+
+    // Makes of l what it becomes, where 11 lets it.
     pub fn of(self, l: Lock) -> Result<Lock, Refusal>
         ensures { result ≡ cond (ready self l) (Ok (becoming self l)) (Err State) }
     {
-        match self {
-            Becomes::Canceling if l.state == ASKED => {
-                Ok(table::remade(l, l.mode, CANCELING, l.number, l.last))
-            }
-            Becomes::Nbw if l.state == CANCELING && (BW..=PW).contains(&l.mode) => {
-                Ok(table::remade(l, NBW, l.state, l.number, l.last))
-            }
-            _ => Err(Refusal::State),
+        if self.ready(l) {
+            Ok(self.becoming(l))
+        } else {
+            Err(Refusal::State)
         }
     }
 }

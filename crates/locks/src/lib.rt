@@ -3,6 +3,11 @@
 
 use table::{MAX_RECORDS, SHOWN_BYTES};
 
+// The kinds of an event.
+pub const GRANT: u64 = 1;
+
+pub const REVOCATION: u64 = 2;
+
 // Where the events of a buffer stand, behind their count, and how many bytes the kind of an event and the whole of it have.
 pub const EVENTS: usize = 4;
 

@@ -111,17 +111,21 @@ module _ (m : Message) (t b : List ℕ) where
       go true z = absurd z
       go false z = refl
 
-  pub whole-refused : (r : Refusal) (k : ℕ) (u c : List ℕ) → Behind 0 o t b (answer_to (Err r)) k u c → OnSound m t b (answer_to (Err r)) u c
-  unfolding put_elements
-  whole-refused r k u c B =
-      let its : refusal_number r ≡ o.refusal = ap (λ (a : Answer). a.refusal) B.answer in
-      let no : eqb o.refusal 0 ≡ false = ne_eqb o.refusal 0 (λ z. refusal-not0 r (its ∙ z)) in
-      record {
-        answer = B.answer;
-        same = B.same;
-        table = B.table;
-        events = rw no (B.events ∙ ap (put_events b 0) (no-events (rw no tt)));
-      }
+  module _ (r : Refusal) (k : ℕ) (u c : List ℕ) (B : Behind 0 o t b (answer_to (Err r)) k u c) where
+    refuses : eqb o.refusal 0 ≡ false
+    refuses = let its : refusal_number r ≡ o.refusal = ap (λ (a : Answer). a.refusal) B.answer in ne_eqb o.refusal 0 (λ z. refusal-not0 r (its ∙ z))
+
+    pub whole-refused : OnSound m t b (answer_to (Err r)) u c
+    unfolding put_elements
+    whole-refused = record {
+      answer = B.answer;
+      same = B.same;
+      table = B.table;
+      events = rw refuses (B.events ∙ ap (put_events b 0) (no-events (rw refuses tt)));
+    }
+
+    pub whole-none : k ≡ 0
+    whole-none = let n : length o.events ≡ 0 = ap length (no-events (rw refuses tt)) in omega (arith, B.count)
 
   pub message-refused : (r : Refusal) → refusal_number r ≡ first_hit (rules (table_of width t) m) → OnSound m t b (answer_to (Err r)) t b
   message-refused r e = whole-refused r 0 t b (behind-refused m t 0 b r e)

@@ -1,5 +1,5 @@
 -- What the functions of serving promise each other and their callers. No public contract of the store cites this file.
-use Rattle.std.specs.Prelude.{ℕ, ◌+◌, ◌≡◌, not, List, T, eqb, length, Result, Ok, Err}
+use Rattle.std.specs.Prelude.{ℕ, ◌+◌, ◌≡◌, not, List, T, eqb, length, Result, Ok, Err, OnErr}
 use Rattle.common.specs.declared.Refusal.{Refusal}
 use Rattle.common.specs.Counters.{width}
 use Rattle.common.specs.Refusals.{refusal_number}
@@ -51,6 +51,6 @@ Lent t e = Good t.n t.bytes.now × (e.k ≡ 0) × Room max_records e.bytes.now
 abbrev pub StillLent : lent.Table → Events → lent.Table → Events → Type 0
 StillLent t e u f = (u.bytes.ghost_name ≡ t.bytes.ghost_name) × (f.bytes.ghost_name ≡ e.bytes.ghost_name)
 
--- the message m is served on the table t and the buffer e, which become u and f, and r is answered
+-- the message m is served on the table t and the buffer e, which become u and f, and r is answered; refused, it leaves none of its events
 abbrev pub Gives : Message → lent.Table → Events → Result Accepted Refusal → lent.Table → Events → Type 0
-Gives m t e r u f = OnSound m t.bytes.now e.bytes.now (answer_to r) u.bytes.now f.bytes.now × StillLent t e u f
+Gives m t e r u f = OnSound m t.bytes.now e.bytes.now (answer_to r) u.bytes.now f.bytes.now × StillLent t e u f × OnErr r (f.k ≡ e.k)

@@ -56,7 +56,7 @@ impl From<Result<Accepted, Refusal>> for Answer {
     }
 }
 
-// Table and events stay two parameters, as in settling.
+// Table and events stay two parameters, as in settling. `Lent` is one word for what a whole call is lent: a sound table, and a buffer with no events.
 
 // Settles the changed table, writes the events behind those that stand there already, and answers the handle h. Their count is the caller's to
 // store.
@@ -112,7 +112,7 @@ pub fn ask(t: &mut Table<'_>, e: &mut Events<'_>, a: Asked) -> Result<Accepted, 
     requires { Good t.old.n t.old.bytes.now × Room (e.old.k + length (serve (table_of width t.old.bytes.now) (requests a)).events) e.old.bytes.now }
     ensures { Behind e.old.k (serve (table_of width t.old.bytes.now) (requests a)) t.old.bytes.now e.old.bytes.now (answer_to result) e.new.k t.new.bytes.now e.new.bytes.now × StillLent t.old e.old t.new e.new }
 {
-    judge::request_refusal(t, a)?;
+    judge::request_refusal(&t.listed(), a)?;
     let h = Handle(t.records().issued() + 1);
     t.put_issued(h.0);
     t.add(waiting(h, a));
@@ -140,7 +140,7 @@ pub fn remake(
     requires { Lent t.old e.old }
     ensures { Gives (asks to client handle.0) t.old e.old result t.new e.new }
 {
-    let i = judge::named(t, client, handle)?;
+    let i = judge::named(&t.listed(), client, handle)?;
     let l = to.of(t.records().lock(i))?;
     t.put_lock(i, l);
     Ok(finish(t, e, handle))
@@ -156,7 +156,7 @@ pub fn release(
     requires { Lent t.old e.old }
     ensures { Gives (Release client handle.0) t.old e.old result t.new e.new }
 {
-    let i = judge::named(t, client, handle)?;
+    let i = judge::named(&t.listed(), client, handle)?;
     t.remove(i);
     Ok(finish(t, e, handle))
 }

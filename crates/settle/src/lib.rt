@@ -13,15 +13,27 @@ ghost use Rattle.settle.specs.Posts.{granted_as, Took, Due, number_of, FirstOf, 
 
 use common::Number;
 use conflicts::Known;
-use locks::{EVENT_BYTES, EVENTS, KIND_BYTES};
+use locks::{EVENT_BYTES, EVENTS, GRANT, KIND_BYTES, REVOCATION};
 use modes::{ASKED, CANCELING, GRANTED, PR, WAITING};
 use table::{Lock, Table, UNMARKED};
 
-// What an event tells of, with the number that stands in its bytes.
+// What an event tells of.
 #[derive(Clone, Copy)]
 enum Kind {
-    Grant = 1,
-    Revocation = 2,
+    Grant,
+    Revocation,
+}
+
+impl Kind {
+    // The number that stands for it in an event's bytes.
+    fn number(self) -> u64
+        ensures { result ≡ number_of self }
+    {
+        match self {
+            Kind::Grant => GRANT,
+            Kind::Revocation => REVOCATION,
+        }
+    }
 }
 
 // A buffer in which k events stand.
@@ -38,14 +50,15 @@ impl<'a> Events<'a> {
         ensures { (self.new.bytes.now ≡ put_events self.old.bytes.now self.old.k (record { kind = number_of kind; lock = l } ∷ [])) × (self.new.k ≡ self.old.k + 1) × (self.new.bytes.ghost_name ≡ self.old.bytes.ghost_name) }
     {
         let at = EVENTS + EVENT_BYTES * self.k;
-        xdr::put_number::<4>(self.bytes, at, kind as u64);
+        xdr::put_number::<4>(self.bytes, at, kind.number());
         table::put_shown(self.bytes, at + KIND_BYTES, l);
         self.k += 1;
     }
 }
 
 // Table and events stay two parameters below: each is a struct with methods of its own, and one of both would only be taken apart again. That modes
-// are known (`Moded`) is a clause where a table changes, since a `Table` takes any record; lent for questions it is `Known`.
+// are known (`Moded`) is a clause where a table changes, since a `Table` takes any record; lent for questions it is `Known`. A place,
+// and the room for one event more, are of the call: they are said where they are asked.
 
 // Lends a table whose modes are known for questions.
 fn known<'a>(t: &'a Table<'_>) -> Known<'a>

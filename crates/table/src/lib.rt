@@ -245,6 +245,14 @@ impl<'a> Records<'a> {
     }
 }
 
+// A table of n records, lent for reading.
+#[derive(Clone, Copy)]
+pub struct Listed<'a> {
+    pub records: Records<'a>,
+    pub n: usize,
+    ghost shape: { Shape n records.bytes.now },
+}
+
 // A lent table of n records. What changes it keeps this shape. That it is sound (`Good`) is a clause where it is asked: a message changes a table
 // field by field, so it is sound only between changes.
 #[derive(Drop)]
@@ -261,6 +269,16 @@ impl<'a> Table<'a> {
     {
         Records {
             bytes: &*self.bytes,
+        }
+    }
+
+    // Lends the table for reading.
+    pub fn listed(&self) -> Listed<'_>
+        ensures { (result.records.bytes.now ≡ self.now.bytes.now) × (result.n ≡ self.now.n) }
+    {
+        Listed {
+            records: self.records(),
+            n: self.n,
         }
     }
 

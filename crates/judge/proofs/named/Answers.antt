@@ -9,12 +9,12 @@ pub returns-then-lock-client : goal.returns-then-lock-client
 returns-then-lock-client c =
     let there : c.find.result ≡ Some c.in_ok-i.i = search rules in
     let found = rw there at c.find.ensures in
-    let l : c.lock.result ≡ lock_at c.args.t.now.bytes.now c.in_ok-i.i = cc in
+    let l : c.lock.result ≡ lock_at c.args.t.now.records.bytes.now c.in_ok-i.i = cc in
     finds-10 _ _ _ _ c.in_ok-i.i c.requires found.1 c.if-client-gt-MAX_CLIENT.false found.0 c.lock.result l c.if-lock-client.true
 
 pub returns : goal.returns
 returns c =
     let there : c.find.result ≡ Some c.in_ok-i.i = search rules in
     let found = rw there at c.find.ensures in
-    let l : c.lock.result ≡ lock_at c.args.t.now.bytes.now c.in_ok-i.i = cc in
+    let l : c.lock.result ≡ lock_at c.args.t.now.records.bytes.now c.in_ok-i.i = cc in
     finds-it _ _ _ _ c.in_ok-i.i c.requires found.1 c.if-client-gt-MAX_CLIENT.false found.0 c.lock.result l c.if-lock-client.false

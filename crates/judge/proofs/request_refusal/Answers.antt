@@ -8,10 +8,10 @@ use Rattle.judge.proofs.request_refusal.Goals as goal
 
 pub returns-then-t-ge-MAX_RECORDS : goal.returns-then-t-ge-MAX_RECORDS
 returns-then-t-ge-MAX_RECORDS c =
-    let many : length (locks_of width c.args.t.now.bytes.now) ≡ c.args.t.now.n = locks-length c.args.t.now.bytes.now ∙ c.args.t.now.shape.count in
+    let many : length (locks_of width c.args.t.now.records.bytes.now) ≡ c.args.t.now.n = locks-length c.args.t.now.records.bytes.now ∙ c.args.t.now.shape.count in
     rw many (search rules)
 
 pub returns : goal.returns
 returns c =
-    let many : length (locks_of width c.args.t.now.bytes.now) ≡ c.args.t.now.n = locks-length c.args.t.now.bytes.now ∙ c.args.t.now.shape.count in
+    let many : length (locks_of width c.args.t.now.records.bytes.now) ≡ c.args.t.now.n = locks-length c.args.t.now.records.bytes.now ∙ c.args.t.now.shape.count in
     rw many (search rules)

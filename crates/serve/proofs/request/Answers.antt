@@ -1,5 +1,5 @@
 -- `request`: asked for behind no events, and the count is stored.
-use mathlib.Core.Path.{◌≡◌, sym, subst}
+use mathlib.Core.Path.{◌≡◌, sym, subst, ◌∙◌}
 use native.Mathlib.Omega.{arith}
 use Rattle.std.proofs.Common.{rules, ℕ, ◌+◌, length, Err}
 use Rattle.common.specs.Counters.{width}
@@ -7,7 +7,7 @@ use Rattle.table.specs.Bytes.{table_of}
 use Rattle.locks.specs.Serve.{serve}
 use Rattle.locks.specs.Events.{Room}
 use Rattle.judge.specs.Posts.{requests}
-use Rattle.serve.proofs.Behind.{message-fits, behind-length, whole-refused, whole-accepted}
+use Rattle.serve.proofs.Behind.{message-fits, behind-length, whole-refused, whole-none, whole-accepted}
 use Rattle.serve.proofs.request.Goals as goal
 
 pub ask-requires : goal.ask-requires
@@ -19,7 +19,7 @@ returns-in_err-accepted c =
     let same : c.from_residual.result ≡ Err c.in_err-accepted.field-0.0 = search rules in
     let asked = c.in_err-accepted.ensures in
     let behind = rw c.requires.1 at asked.0 in
-    rw same (whole-refused (requests c.args.a) _ _ _ _ _ _ behind, asked.1)
+    rw same (whole-refused (requests c.args.a) _ _ _ _ _ _ behind, asked.1, whole-none (requests c.args.a) _ _ _ _ _ _ behind ∙ sym c.requires.1)
 
 pub put_count-requires : goal.put_count-requires
 put_count-requires c =
@@ -31,4 +31,4 @@ pub returns : goal.returns
 returns c =
     let asked = c.in_ok-accepted.ensures in
     let behind = rw c.requires.1 at asked.0 in
-    (whole-accepted _ _ _ c.in_ok-accepted.accepted _ _ _ _ behind c.put_count.ensures.0, ((cc), (cc)))
+    (whole-accepted _ _ _ c.in_ok-accepted.accepted _ _ _ _ behind c.put_count.ensures.0, ((cc), (cc)), tt)
