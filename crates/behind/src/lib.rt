@@ -18,7 +18,7 @@ fn onward(r: Run, piece: Placed, b: u64) -> u64
     requires { Valid r }
     ensures { result ≡ onward r (value_of piece.age) b }
 {
-    if (r.first..=r.last).contains(&b) && piece.age <= r.age {
+    if (r.first..=r.last).contains(&b) && !runs::older(r.age, piece.age) {
         r.last + 1
     } else {
         b

@@ -11,7 +11,7 @@ use runs::Age;
 use stripe::Extent;
 
 // Tests whether a piece has length 0, or lies past the image or past EOF.
-fn is_misplaced(e: Extent, image: u64) -> bool
+pub fn is_misplaced(e: Extent, image: u64) -> bool
     ensures { result ≡ misplaced e image }
 {
     match e.first.checked_add(e.len) {
@@ -28,7 +28,7 @@ fn is_uncounted(n: u64, most: u64) -> bool
 }
 
 // Tests whether a piece's number or its pass is 0, or above the highest.
-fn is_misnumbered(e: Extent) -> bool
+pub fn is_misnumbered(e: Extent) -> bool
     ensures { result ≡ misnumbered e }
 {
     is_uncounted(e.age.number.0, common::HIGHEST) || is_uncounted(e.age.pass.0, runs::HIGHEST_PASS)

@@ -17,7 +17,7 @@ fn store_run(part: &mut [u8], bytes: &[u8], r: Run, piece: Placed)
     requires { (length part.old ≡ length bytes.now) × Valid r }
     ensures { part.new ≡ stored (r ∷ []) (value_of piece.age) piece.first bytes.now part.old }
 {
-    if r.age == piece.age {
+    if runs::same(r.age, piece.age) {
         let len = bytes.len();
         let from = len.min(r.first.saturating_sub(piece.first) as usize);
         let to = len.min((r.last + 1).saturating_sub(piece.first) as usize);
