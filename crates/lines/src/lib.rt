@@ -1,7 +1,8 @@
 // Cuts the input into lines, wherever its pieces end: gathers a line from piece after piece, and has it read.
 #![tactic(auto)]
 
-ghost use Rattle.std.specs.Prelude.{◌≡◌, ℕ, List, ◌++◌, is_some};
+ghost use Rattle.std.specs.Prelude.{◌≡◌, ◌+◌, ◌≤◌, ℕ, List, ◌++◌, is_some};
+ghost use Rattle.line.specs.Format.{longest};
 ghost use Rattle.lines.specs.Buffers.{Keeps, Saying, Gathers, taken};
 
 use arrayvec::ArrayVec;
@@ -10,11 +11,12 @@ use locks::Message;
 // How much is kept of a line: 128 bytes, the CR of its break, and one byte more that tells a line that is too long.
 pub const LINE_BYTES: usize = 130;
 
-// What is kept of the line that is being gathered.
+// What is kept of the line that is being gathered. Any longer buffer serves as well.
 pub type Line = ArrayVec<u8, LINE_BYTES>;
 
 // Keeps more bytes of a line, as far as there is room.
-pub fn keep(line: &mut Line, bytes: &[u8])
+pub fn keep<const N: usize>(line: &mut ArrayVec<u8, N>, bytes: &[u8])
+    requires { longest + 2 ≤ N }
     ensures { (p : List ℕ) → Keeps line.old.items p → Keeps line.new.items (p ++ bytes.now) }
 {
     let n = bytes.len().min(line.remaining_capacity());
@@ -22,7 +24,8 @@ pub fn keep(line: &mut Line, bytes: &[u8])
 }
 
 // Gathers the bytes of a piece up to the end of a line, or all of them. Answers how many it took, if the line's break was met.
-pub fn gather(piece: &[u8], line: &mut Line) -> Option<usize>
+pub fn gather<const N: usize>(piece: &[u8], line: &mut ArrayVec<u8, N>) -> Option<usize>
+    requires { longest + 2 ≤ N }
     ensures { Gathers piece.now line.old.items line.new.items (taken result piece.now) (is_some result) }
 {
     let Some(end) = piece.iter().position(|b| *b == b'\n') else {
@@ -33,11 +36,10 @@ pub fn gather(piece: &[u8], line: &mut Line) -> Option<usize>
     Some(end + 1)
 }
 
-// Reads the line that is kept; `last` says that it lacks its break.
-pub fn said(line: &Line, last: bool) -> Option<Message>
-    ensures { Saying last line.now.items result }
+// Reads the line of which these bytes are kept; `last` says that it lacks its break.
+pub fn said(kept: &[u8], last: bool) -> Option<Message>
+    ensures { Saying last kept.now result }
 {
-    let kept = line.as_slice();
     if last {
         return line::read_line(kept);
     }

@@ -26,8 +26,8 @@ use Rattle.message.specs.Messages.{Serves}
 use Rattle.table.proofs.Zeros.{sound-good}
 use Rattle.promises.proofs.Sessions as sessions
 use Rattle.promises.proofs.Sessions.{outcome-is, Follows}
-use Rattle.std.specs.Prelude.{Some, None}
-use Rattle.text.specs.Text.{bad_text, outcome_text, line_size, outcome_size}
+use Rattle.std.specs.Prelude.{Some}
+use Rattle.text.specs.Text.{outcome_text, outcome_size}
 use Rattle.text.specs.Buffers.{Wrote, events_in}
 use Rattle.text.proofs.Events.{events-read}
 use Rattle.session.specs.Buffers.{Answers}

@@ -1,13 +1,27 @@
--- What a session leaves: its table, the unfinished line, and what is to be written.
-use Rattle.std.specs.Prelude.{ℕ, ◌≤◌, ◌<◌, ◌≡◌, true, List, [], length, take}
+-- What a session's functions are lent, and what they leave there: the table, the events of a call, the unfinished line, and what is to be written.
+use Rattle.std.specs.Prelude.{ℕ, ◌+◌, ◌≤◌, ◌<◌, ◌≡◌, true, List, [], length, take}
 use Rattle.std.specs.declared.option.Option.{Option}
 use Rattle.common.specs.Counters.{width}
-use Rattle.table.specs.Table.{Table}
+use Rattle.table.specs.Table.{Table, max_records}
 use Rattle.table.specs.Bytes.{table_of, sound_table_bytes}
+use Rattle.locks.specs.Events.{events_size}
 use Rattle.locks.specs.declared.Message.{Message}
+use Rattle.line.specs.Format.{longest}
+use Rattle.text.specs.Text.{outcome_size}
 use Rattle.lines.specs.Lines.{left}
 use Rattle.lines.specs.Buffers.{Keeps}
 use Rattle.session.specs.Session.{answer, next, answers, table_after, written_from, said_in}
+
+-- The table is sound, and there is room for the events of a call and, in a buffer of o bytes, for the lines of its answer
+pub record Lent (table events : List ℕ) (o : ℕ) : Type 0 where
+  pub sound : sound_table_bytes table ≡ true
+  pub event_room : events_size width ≤ length events
+  pub text_room : outcome_size max_records ≤ o
+
+-- Besides, a line is kept in a buffer of l bytes, which tells a line that is too long
+pub record Ready (l : ℕ) (table events : List ℕ) (o : ℕ) : Type 0 where
+  pub room : longest + 2 ≤ l
+  pub lent : Lent table events o
 
 -- `out` answers what a line says, and the table is that after it
 pub record Answers (r : Option Message) (before table out : List ℕ) : Type 0 where

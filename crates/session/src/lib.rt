@@ -6,9 +6,10 @@ ghost use Rattle.table.specs.Bytes.{sound_table_bytes};
 ghost use Rattle.locks.specs.Session.{single};
 ghost use Rattle.line.specs.Format.{Single};
 ghost use Rattle.message.specs.Messages.{Serves};
-ghost use Rattle.session.specs.Buffers.{Answers, Feeds, Ends};
+ghost use Rattle.session.specs.Buffers.{Lent, Ready, Answers, Feeds, Ends};
 ghost use Rattle.session.specs.Run.{start};
 
+use arrayvec::ArrayVec;
 use lines::Line;
 use locks::Message;
 use message::EVENTS_BYTES;
@@ -42,6 +43,67 @@ fn call(table: &mut [u8], events: &mut [u8], m: Message) -> Answer
     }
 }
 
+// Puts the answer to what a line says.
+fn answer<const O: usize>(
+    table: &mut [u8],
+    events: &mut [u8],
+    out: &mut ArrayVec<u8, O>,
+    said: Option<Message>,
+)
+    requires { Lent table.old events.old O × Single said }
+    ensures { Answers said table.old table.new out.new.items }
+{
+    out.clear();
+    match said {
+        None => text::put_bad(out),
+        Some(m) => {
+            let a = call(table, events, m);
+            text::put_outcome(out, a.refusal, a.handle, events, a.events as usize);
+        }
+    }
+}
+
+// Takes the bytes of a piece up to the end of a line and answers the line, or takes them all. Answers how many it took. Any buffers that have room
+// may be lent: a session lends its own.
+pub fn feed<const L: usize, const O: usize>(
+    piece: &[u8],
+    line: &mut ArrayVec<u8, L>,
+    table: &mut [u8],
+    events: &mut [u8],
+    out: &mut ArrayVec<u8, O>,
+) -> usize
+    requires { Ready L table.old events.old O }
+    ensures { Feeds piece.now line.old.items table.old result line.new.items table.new out.new.items }
+{
+    let Some(taken) = lines::gather(piece, line) else {
+        out.clear();
+        return piece.len();
+    };
+    let said = lines::said(line.as_slice(), false);
+    answer(table, events, out, said);
+    line.clear();
+    taken
+}
+
+// Answers the last line, if it lacks its break. What is kept of the line stays.
+pub fn end<const L: usize, const O: usize>(
+    line: &ArrayVec<u8, L>,
+    table: &mut [u8],
+    events: &mut [u8],
+    out: &mut ArrayVec<u8, O>,
+)
+    requires { Ready L table.old events.old O }
+    ensures sound { sound_table_bytes table.new ≡ true }
+    ensures out { Ends line.now.items table.old out.new.items }
+{
+    if line.is_empty() {
+        out.clear();
+        return;
+    }
+    let said = lines::said(line.as_slice(), true);
+    answer(table, events, out, said);
+}
+
 // The lock table, the events of its last call, what is kept of the line that is being gathered, and what is to be written.
 #[derive(Drop)]
 pub struct Session {
@@ -67,50 +129,24 @@ impl Session {
         }
     }
 
-    // Puts the answer to what a line says.
-    fn answer(&mut self, said: Option<Message>)
-        requires { Single said }
-        ensures { Answers said self.old.table self.new.table self.new.out.items }
-    {
-        self.out.clear();
-        match said {
-            None => text::put_bad(&mut self.out),
-            Some(m) => {
-                let a = call(&mut self.table, &mut self.events, m);
-                text::put_outcome(
-                    &mut self.out,
-                    a.refusal,
-                    a.handle,
-                    &self.events,
-                    a.events as usize,
-                );
-            }
-        }
-    }
-
-    // Takes the bytes of a piece up to the end of a line and answers the line, or takes them all. Answers how many it took.
+    // Takes a piece as `feed` does, with the session's own buffers.
     pub fn feed(&mut self, piece: &[u8]) -> usize
         ensures { Feeds piece.now self.old.line.items self.old.table result self.new.line.items self.new.table self.new.out.items }
     {
-        let Some(taken) = lines::gather(piece, &mut self.line) else {
-            self.out.clear();
-            return piece.len();
-        };
-        let said = lines::said(&self.line, false);
-        self.answer(said);
-        self.line.clear();
-        taken
+        feed(
+            piece,
+            &mut self.line,
+            &mut self.table,
+            &mut self.events,
+            &mut self.out,
+        )
     }
 
-    // Answers the last line, if it lacks its break.
+    // Answers the last line as `end` does. What is kept of the line stays.
     pub fn end(&mut self)
-        ensures { Ends self.old.line.items self.old.table self.new.out.items }
+        ensures line { self.new.line.items ≡ self.old.line.items }
+        ensures out { Ends self.old.line.items self.old.table self.new.out.items }
     {
-        if self.line.is_empty() {
-            self.out.clear();
-            return;
-        }
-        let said = lines::said(&self.line, true);
-        self.answer(said);
+        end(&self.line, &mut self.table, &mut self.events, &mut self.out);
     }
 }

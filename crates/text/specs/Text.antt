@@ -1,7 +1,6 @@
 -- Numbers and lines as text, in bytes.
 use Rattle.std.specs.Prelude.{ℕ, zero, suc, ◌+◌, ◌*◌, ◌/◌, ◌%◌, cond, List, [], ◌∷◌, ◌++◌, ltb, eqb}
 use Prim.Native.Char.{code}
-use Rattle.table.specs.Table.{max_records}
 use Rattle.locks.specs.declared.Message.{Message}
 use Rattle.locks.specs.declared.Message.TheVariants.{Request, Acknowledge, Downgrade, Release}
 use Rattle.line.specs.Format.{bytes}
@@ -71,7 +70,3 @@ line_size n = 3 + 21 * n
 
 abbrev pub outcome_size : ℕ → ℕ
 outcome_size n = line_size 2 + line_size 8 * n
-
--- How much there is room for: the answer's line and the lines of as many events as there are records
-abbrev pub text_room : ℕ
-text_room = outcome_size max_records

@@ -6,7 +6,7 @@ use Rattle.lines.proofs.Pieces.{gathered-part, gathered-line}
 use Rattle.lines.proofs.gather.Goals as goal
 
 pub returns-in_default : goal.returns-in_default
-returns-in_default c =
+returns-in_default g c =
     let F =
     IsFirst-from_position _ _ _ (λ b. b ≡ code "\n") (λ b. b ≡ code "\n" → ⊥) c.in_default.ensures.ran
     (YieldsList-from_slice c.args.piece.now c.iter.ensures.rest) (λ x q k. search (rules, tests)) (λ x q k. search (rules, tests)) in
@@ -17,7 +17,7 @@ returns-in_default c =
     }
 
 pub returns : goal.returns
-returns c =
+returns g c =
     let F =
     IsFirst-from_position _ _ _ (λ b. b ≡ code "\n") (λ b. b ≡ code "\n" → ⊥) c.in-Some.ensures.ran
     (YieldsList-from_slice c.args.piece.now c.iter.ensures.rest) (λ x q k. search (rules, tests)) (λ x q k. search (rules, tests)) in

@@ -4,5 +4,5 @@ use Rattle.text.proofs.Events.{event-line}
 use Rattle.text.proofs.put_event.Goals as goal
 
 pub returns : goal.returns
-returns c =
+returns g c =
     event-line c.args.events.now (event_place c.args.k) _ _ c.number_at-kind.ensures.0 c.shown_at-l.ensures.0 (rw c.letter_of.ensures at c.put_line.ensures)

@@ -6,16 +6,16 @@ use Rattle.text.proofs.Writing.{fitting, wrote_length, line-start, line-next, li
 use Rattle.text.proofs.put_line.Goals as goal
 
 pub loop-n-init : goal.loop-n-init
-loop-n-init c = line-start _ _ c.push.ensures.items
+loop-n-init g c = line-start _ _ c.push.ensures.items
 
 pub put_number-requires : goal.put_number-requires
-put_number-requires c =
+put_number-requires g c =
     omega (arith, wrote_length c.loop-n.invariant, c.push-in-loop-n.ensures.len, at-most-20 (get_or c.args.numbers.now c.loop-n.n-index 0))
 
 pub loop-n-preserved : goal.loop-n-preserved
-loop-n-preserved c = line-next _ c.args.numbers.now _ c.loop-n.invariant c.loop-n-test.true c.push-in-loop-n.ensures.items c.put_number.ensures
+loop-n-preserved g c = line-next _ c.args.numbers.now _ c.loop-n.invariant c.loop-n-test.true c.push-in-loop-n.ensures.items c.put_number.ensures
 
 pub returns : goal.returns
-returns c =
+returns g c =
     let t = c.try_extend_from_slice in
     line-end _ c.args.numbers.now _ c.loop-n.invariant (omega arith) (omega arith) (fitting t.result t.ensures.variant t.ensures.ok (omega (arith, wrote_length c.loop-n.invariant)))

@@ -5,4 +5,4 @@ use Rattle.text.specs.Buffers.{Wrote}
 use Rattle.text.proofs.put_line.Given as goal
 
 abbrev pub invariant-loop-n : goal.invariant-loop-n
-invariant-loop-n l = Wrote (1 + 21 * l.n-index) l.fn.out.items l.out.items (l.letter ∷ fields_text (take l.n-index l.numbers))
+invariant-loop-n g l = Wrote (1 + 21 * l.n-index) l.fn.out.items l.out.items (l.letter ∷ fields_text (take l.n-index l.numbers))

@@ -4,4 +4,4 @@ use Rattle.text.proofs.Decimal.{library-decimal}
 use Rattle.text.proofs.put_number.Goals as goal
 
 pub returns : goal.returns
-returns c = let e = library-decimal c.args.n (omega arith) in search (rules, e)
+returns g c = let e = library-decimal c.args.n (omega arith) in search (rules, e)

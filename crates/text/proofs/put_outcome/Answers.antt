@@ -6,7 +6,7 @@ use Rattle.text.proofs.put_outcome.Goals as goal
 
 pub loop-k-init : goal.loop-k-init
 unfolding tab events_text
-loop-k-init c = wrote_none _
+loop-k-init g c = wrote_none c.put_line.new.out.items
 
 pub loop-k-preserved : goal.loop-k-preserved
-loop-k-preserved c = wrote-event _ _ c.loop-k.invariant c.put_event.ensures
+loop-k-preserved g c = wrote-event _ _ c.loop-k.invariant c.put_event.ensures

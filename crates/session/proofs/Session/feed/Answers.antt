@@ -1,6 +1,5 @@
--- `feed`: a line that ends in the piece is answered; where none does, nothing is to be written.
-use Rattle.session.proofs.Feeding.{said-single}
+-- `feed` of a session: what the function of that name does with its buffers.
 use Rattle.session.proofs.Session.feed.Goals as goal
 
-pub answer-requires : goal.answer-requires
-answer-requires c = search said-single
+pub returns : goal.returns
+returns c = c.feed.ensures
