@@ -12,6 +12,33 @@ use extent::Placed;
 use runbytes::Map;
 use runs::Run;
 
+// How many bytes of a long stretch go at once.
+const BLOCK: usize = 16384;
+
+// Copies the bytes into the part one by one, from the front on: a cut finds a front of them. The library's copy may begin at the end.
+fn copy_bytes(part: &mut [u8], bytes: &[u8])
+    requires { length part.old ≡ length bytes.now }
+    ensures { part.new ≡ bytes.now }
+{
+    for i in 0..bytes.len() {
+        part[i] = bytes[i];
+    }
+}
+
+// Copies the bytes into the part, those of a long stretch block by block, each by the library's copy, which is the quicker one.
+fn copy(part: &mut [u8], bytes: &[u8])
+    requires { length part.old ≡ length bytes.now }
+    ensures { part.new ≡ bytes.now }
+{
+    let blocks = bytes.len() / BLOCK;
+    for k in 0..blocks {
+        let i = BLOCK * k;
+        part[i..i + BLOCK].copy_from_slice(&bytes[i..i + BLOCK]);
+    }
+    let i = BLOCK * blocks;
+    copy_bytes(&mut part[i..], &bytes[i..]);
+}
+
 // Stores what one run lets through: the piece's bytes in the run, if it has the piece's age.
 fn store_run(part: &mut [u8], bytes: &[u8], r: Run, piece: Placed)
     requires { (length part.old ≡ length bytes.now) × Valid r }
@@ -21,7 +48,7 @@ fn store_run(part: &mut [u8], bytes: &[u8], r: Run, piece: Placed)
         let len = bytes.len();
         let from = len.min(r.first.saturating_sub(piece.first) as usize);
         let to = len.min((r.last + 1).saturating_sub(piece.first) as usize);
-        part[from..to].copy_from_slice(&bytes[from..to]);
+        copy(&mut part[from..to], &bytes[from..to]);
     }
 }
 

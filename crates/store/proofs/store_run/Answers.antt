@@ -15,7 +15,7 @@ returns-then-same c =
     let a = c.args in
     let f : c.min-from.result ≡ min (a.r.first - a.piece.first) (length a.bytes.now) = grind (arith, common_steps) in
     let t : c.min-to.result ≡ min (a.r.last + 1 - a.piece.first) (length a.bytes.now) = grind (arith, common_steps) in
-    rw c.copy_from_slice.ensures.after
+    rw c.copy.ensures
     (run-stretch a.r (value_of a.piece.age) a.piece.first a.bytes.now a.part.now a.piece.granted _ _ f t c.requires.1.rising
     (eqb-true _ _ (sym c.same.ensures ∙ c.if-same.true)) c.requires.0)
 
