@@ -1,3 +1,4 @@
+pub mod Putting
 pub mod Sorting
 pub mod Searching
 pub mod Inserting

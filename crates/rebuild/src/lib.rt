@@ -117,8 +117,8 @@ pub fn rebuilt(out: &mut [u8; MAP_SIZE], log: Log<'_>) -> usize
 {
     let mut drawing = Drawing::start(out);
     let mut places = [0u16; MAX_ENTRIES];
-    let order = &mut places[0..log.count()];
-    order::by_first(&log, order);
+    sort::by_first(&log, &mut places);
+    let order = &places[0..log.count()];
     let mut sweep = Sweep::start(log, order);
     while drawing.pen.x <= common::EOF {
         sweep.take_in(drawing.pen.x);

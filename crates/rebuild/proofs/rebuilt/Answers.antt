@@ -1,4 +1,8 @@
-use Rattle.std.proofs.Common.{rules, ◌∙◌, refl, arith}
+use Rattle.std.proofs.Common.{rules, ◌-◌, ◌∙◌, refl, arith}
+use lib.Seq.{get_or-take}
+use Rattle.xdr.specs.Be.{be}
+use Rattle.order.specs.Places.{first_at}
+use Rattle.sort.proofs.Halves.{sorted-same}
 use Rattle.common.specs.Counters.{width}
 use Rattle.runs.specs.Ages.{Exact}
 use Rattle.runs.specs.Map.{map_of}
@@ -12,6 +16,12 @@ use Rattle.rebuild.specs.Sweeping.{Ready}
 use Rattle.rebuild.proofs.Taking.{later}
 use Rattle.rebuild.proofs.Owning.{Step, ready-owns, stretched}
 use Rattle.rebuild.proofs.rebuilt.Goals as goal
+
+pub start-sweep-requires-clause-sorted : goal.start-sweep-requires-clause-sorted
+start-sweep-requires-clause-sorted c =
+    let log = c.args.log.bytes.now in
+    let s = c.by_first.new.list in
+    sorted-same (first_at log) s _ 0 (be 4 log 0) (λ j f l. get_or-take (c.count.result - 0) s j 0 (omega arith)) c.by_first.ensures
 
 pub loop-drawing-init : goal.loop-drawing-init
 loop-drawing-init c = rw (c.start-drawing.ensures.fresh.0, c.start-drawing.ensures.fresh.1) (record { most = omega arith; drawn = drawn-fresh _ _; sweeping = c.start-sweep.ensures; lent = refl })
