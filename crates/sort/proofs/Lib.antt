@@ -1,3 +1,4 @@
 pub mod Copying
 pub mod Merging
 pub mod Halves
+pub mod Parts
